@@ -1,0 +1,4 @@
+pub mod Lines
+pub mod Timed
+pub mod Entering
+pub mod ClockLaws

@@ -1,0 +1,22 @@
+use mathlib.Core.Path.{sym}
+use Prim.Native.Nat.{_-_}
+use lib.ListN.{length}
+use Rattle.std.specs.Of.Vec.{vec-items}
+use Rattle.network.specs.Lists.{arcs-refusal, sites-refusal}
+use Rattle.network.proofs.First.{none-is}
+use Rattle.clock.specs.Held.{table-lists}
+use Rattle.clock.specs.Points.{points-refusal}
+use Rattle.clock.proofs.Timed.{table-says}
+use Rattle.clock.proofs.tables.ClockTables.examine.Needs as need
+
+pub ghost-streets : need.ghost-streets
+ghost-streets c =
+    let s = c .args .self in
+    let k = table-says (table-lists s) (sym (c .in-rest .ensures tt)) in
+    (none-is (arcs-refusal (vec-items (s .starts)) (vec-items (s .heads))) (k .0), (none-is (sites-refusal (length (vec-items (s .starts)) - 1) (vec-items (s .sites))) (k .2), tt))
+
+pub bare-requires : need.bare-requires
+bare-requires c κs =
+    let s = c .args .self in
+    let k = table-says (table-lists s) (sym (c .in-rest .ensures tt)) in
+    (none-is (points-refusal (length (vec-items (s .heads))) (vec-items (s .points)) (vec-items (s .departures)) (vec-items (s .arrivals))) (k .1))

@@ -1,0 +1,15 @@
+// What the program answers: which command a line asks for, and what each command computes.
+mod drives;
+mod faults;
+mod tables;
+mod verbs;
+
+pub use drives::carry_from;
+pub use drives::drive;
+pub use drives::start_of;
+pub use faults::StartFault;
+pub use faults::StartFaultRefusal;
+pub use tables::clock_tables;
+pub use verbs::Verb;
+pub use verbs::VerbNamed;
+pub use verbs::verb_of;

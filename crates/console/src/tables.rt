@@ -1,0 +1,23 @@
+// The tables of each kind of roads, copied from a depot.
+ghost use mathlib.Core.Path.{_≡_};
+ghost use Rattle.clock.specs.Held.{table-lists};
+ghost use Rattle.console.specs.Kinds.{clock-tables};
+ghost use Rattle.depot.specs.Reads.{seen};
+ghost use Rattle.std.specs.Vec.{made};
+use clock::ClockTables;
+use depot::Depot;
+use std::alloc::AllocError;
+use std::alloc::Global;
+
+pub fn clock_tables(heap: Global, depot: &Depot) -> Result<ClockTables, AllocError>
+    ensures { λ r. ⌜ made r (λ t. table-lists t ≡ clock-tables (seen (now (depot .entry)))) ⌝ }
+{
+    Ok(ClockTables {
+        starts: Vec::from_slice(heap, depot.arc_starts.as_slice())?,
+        heads: Vec::from_slice(heap, depot.heads.as_slice())?,
+        points: Vec::from_slice(heap, depot.point_starts.as_slice())?,
+        departures: Vec::from_slice(heap, depot.departures.as_slice())?,
+        arrivals: Vec::from_slice(heap, depot.arrivals.as_slice())?,
+        sites: Vec::from_slice(heap, depot.sites.as_slice())?,
+    })
+}

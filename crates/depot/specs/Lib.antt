@@ -1,0 +1,9 @@
+pub mod Cuts
+pub mod Depots
+pub mod Entries
+pub mod Messages
+pub mod Named
+pub mod Names
+pub mod Numbers
+pub mod Reads
+pub mod Says

@@ -1,0 +1,34 @@
+// Reads the text of a depot file, and of a command line.
+mod cut;
+mod depots;
+mod entry;
+mod fault;
+mod line;
+mod listing;
+mod message;
+mod named;
+mod number;
+mod part;
+
+pub use depots::Depot;
+pub use depots::DepotDebug;
+pub use depots::read_depot;
+pub use entry::Entry;
+pub use entry::EntryDebug;
+pub use entry::read_entry;
+pub use fault::EntryFault;
+pub use fault::EntryFaultDebug;
+pub use fault::EntryFaultFromAlloc;
+pub use fault::EntryFaultFromRefused;
+pub use fault::ReadFault;
+pub use fault::ReadFaultDebug;
+pub use fault::ReadFaultFromAlloc;
+pub use fault::ReadFaultFromRefused;
+pub use fault::What;
+pub use fault::WhatDebug;
+pub use fault::WhatPartialEq;
+pub use message::EntryFaultDisplay;
+pub use message::ReadFaultDisplay;
+pub use message::WhatDisplay;
+pub use named::Named;
+pub use named::find_named;

@@ -1,0 +1,5 @@
+pub mod First
+pub mod Refusing
+pub mod Tails
+pub mod Following
+pub mod Layering

@@ -1,0 +1,9 @@
+pub mod First
+pub mod Model
+pub mod Paths
+pub mod Laws
+pub mod Estimates
+pub mod Layers
+pub mod Refused
+pub mod Lists
+pub mod Sets

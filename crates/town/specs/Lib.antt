@@ -1,0 +1,3 @@
+pub mod FourJunctions
+pub mod Frozen
+pub mod Worked
