@@ -1,101 +1,158 @@
 // The commands: each is computed by a library function, and printed here.
+use crate::layered::Layered;
+use crate::layered::open_roads;
+use crate::moves::show_carry;
+use crate::moves::show_change;
+use crate::moves::show_drive;
 use clock::ClockNetwork;
-use clock::ClockRoads;
 use clock::Seconds;
 use clock::SecondsDisplay;
-use console::StartFaultRefusal;
 use console::Verb;
-use console::carry_from;
-use console::drive;
-use console::start_of;
+use console::kind_of;
 use console::verb_of;
+use depot::Depot;
 use depot::EntryFaultDisplay;
 use depot::read_entry;
-use network::Fault;
-use network::RefusalDisplay;
+use depot::split_name;
+use layers::ClosedNetwork;
+use layers::Closures;
+use layers::DetouredNetwork;
+use layers::Detours;
+use length::LengthNetwork;
+use length::Travelled;
+use length::TravelledDisplay;
+use network::Network;
 use std::error::AnyError;
+use std::fmt;
 
 pub(crate) fn answer(
     rt: &LibcRuntime,
-    roads: &ClockRoads,
+    depot: &Depot,
+    roads: &mut Layered,
     number: u64,
     line: &[u8],
 ) -> Result<(), AnyError> {
-    let entry = match read_entry(rt.alloc(), line) {
-        Ok(Some(entry)) => entry,
-        Ok(None) => return Ok(()),
+    let Some((name, rest)) = split_name(line) else {
+        return Ok(());
+    };
+    let Some(verb) = verb_of(name) else {
+        println!(rt, "unknown command")?;
+        return Ok(());
+    };
+    if let Verb::Roads = verb {
+        return change_roads(rt, depot, roads, number, rest);
+    }
+    match read_entry(rt.alloc(), line) {
+        Ok(Some(entry)) => act(rt, roads, verb, number, entry.numbers.as_slice()),
+        Ok(None) => Ok(()),
         Err(fault) => {
             println!(rt, "line {number}: {fault}")?;
-            return Ok(());
-        }
-    };
-    let numbers = entry.numbers.as_slice();
-    match verb_of(entry.name.as_slice()) {
-        Some(Verb::Carry) => show_carry(rt, roads, number, numbers),
-        Some(Verb::Drive) => show_drive(rt, roads, number, numbers),
-        None => {
-            println!(rt, "unknown command")?;
             Ok(())
         }
     }
 }
 
-fn show_arrival(rt: &LibcRuntime, arrival: Option<Seconds>) -> Result<(), AnyError> {
-    match arrival {
-        Some(reading) => println!(rt, "arrives {reading}")?,
-        None => println!(rt, "nothing")?,
+// Other roads of the same depot, with no arc closed and no detour; where they are refused, all stays.
+fn change_roads(
+    rt: &LibcRuntime,
+    depot: &Depot,
+    roads: &mut Layered,
+    number: u64,
+    rest: &[u8],
+) -> Result<(), AnyError> {
+    let kind = match split_name(rest) {
+        Some((word, _)) => kind_of(word),
+        None => None,
+    };
+    let Some(kind) = kind else {
+        println!(rt, "line {number}: roads takes clock or length")?;
+        return Ok(());
+    };
+    if let Some(other) = open_roads(rt, depot, kind)? {
+        *roads = other;
     }
     Ok(())
 }
 
-fn show_carry(
+fn act(
     rt: &LibcRuntime,
-    roads: &ClockRoads,
+    roads: &mut Layered,
+    verb: Verb,
     number: u64,
     numbers: &[u32],
 ) -> Result<(), AnyError> {
-    let [arc, seconds] = numbers else {
-        println!(rt, "line {number}: carry takes an arc and a reading")?;
-        return Ok(());
-    };
-    show_arrival(rt, carry_from(roads, *arc, Seconds::new(*seconds)))
+    match roads {
+        Layered::Clock(streets) => match (verb, numbers) {
+            (Verb::Carry, [arc, seconds]) => show_carry(rt, streets, *arc, Seconds::new(*seconds)),
+            (Verb::Carry, _) => misuse(rt, number, "carry takes an arc and a reading"),
+            _ => act_on(rt, streets, verb, number, numbers),
+        },
+        Layered::Length(streets) => match (verb, numbers) {
+            (Verb::Carry, [arc, metres, passed]) => show_carry(
+                rt,
+                streets,
+                *arc,
+                Travelled::new(*metres, *passed),
+            ),
+            (Verb::Carry, _) => misuse(rt, number, "carry takes an arc, metres and arcs passed"),
+            _ => act_on(rt, streets, verb, number, numbers),
+        },
+    }
 }
 
-fn show_drive(
+fn misuse(rt: &LibcRuntime, number: u64, what: &str) -> Result<(), AnyError> {
+    println!(rt, "line {number}: {what}")?;
+    Ok(())
+}
+
+// The commands that go alike on every kind of roads.
+fn act_on<N: Network>(
     rt: &LibcRuntime,
-    roads: &ClockRoads,
+    roads: &mut Closures<Detours<N>>,
+    verb: Verb,
     number: u64,
     numbers: &[u32],
-) -> Result<(), AnyError> {
-    let [start, arcs @ ..] = numbers else {
-        println!(rt, "line {number}: drive takes a start number and arcs")?;
-        return Ok(());
-    };
-    match start_of(roads, *start) {
-        Ok(reading) => {
-            for arrival in drive(rt.alloc(), roads, reading, arcs)?.iter() {
-                show_arrival(rt, *arrival)?;
-            }
-        }
-        Err(fault) => {
-            let refusal = fault.refusal();
-            println!(rt, "{refusal}")?;
-        }
+) -> Result<(), AnyError>
+where
+    N::Reading: fmt::Display,
+{
+    match (verb, numbers) {
+        (Verb::Drive, [start, arcs @ ..]) => show_drive(rt, roads, *start, arcs),
+        (Verb::Close, [arc]) => show_change(rt, "closed", roads.close(*arc)),
+        (Verb::Reopen, [arc]) => show_change(rt, "reopened", roads.reopen(*arc)),
+        (Verb::Detour, [arc, units]) => show_change(
+            rt,
+            "detoured",
+            roads.below.detour(*arc, *units),
+        ),
+        (Verb::Lift, [arc]) => show_change(rt, "lifted", roads.below.lift(*arc)),
+        (Verb::Drive, _) => misuse(rt, number, "drive takes a start number and arcs"),
+        (Verb::Detour, _) => misuse(rt, number, "detour takes an arc and units"),
+        _ => misuse(rt, number, "close, reopen and lift take an arc"),
     }
-    Ok(())
 }
 
 // Some drives on the built-in depot, each before its answer.
-pub(crate) fn show_worked(rt: &LibcRuntime, roads: &ClockRoads) -> Result<(), AnyError> {
+pub(crate) fn show_worked(
+    rt: &LibcRuntime,
+    depot: &Depot,
+    roads: &mut Layered,
+) -> Result<(), AnyError> {
     for line in [
         "carry 3 32350",
         "drive 28800 1 3",
         "drive 30500 0 2",
         "drive 86400 0 2",
         "drive 86401 0",
+        "roads length",
+        "drive 0 1 3",
+        "detour 1 60",
+        "drive 0 1 3",
+        "close 3",
+        "drive 0 1 3",
     ] {
         println!(rt, "> {line}")?;
-        answer(rt, roads, 0, line.as_bytes())?;
+        answer(rt, depot, roads, 0, line.as_bytes())?;
     }
     Ok(())
 }

@@ -1,16 +1,16 @@
 // The charge finder: reads a depot, then answers one command a line.
 mod commands;
+mod layered;
+mod moves;
 
-use clock::ClockRoads;
-use clock::TableFaultRefusal;
 use commands::answer;
 use commands::show_worked;
-use console::clock_tables;
+use console::Kind;
+use console::kind_of;
 use depot::Depot;
 use depot::ReadFaultDisplay;
 use depot::read_depot;
-use network::Fault;
-use network::RefusalDisplay;
+use layered::open_roads;
 use std::env;
 use std::error::AnyError;
 use std::fs;
@@ -27,11 +27,19 @@ fn run(rt: &LibcRuntime) -> Result<(), AnyError> {
     let _program = words.next();
     let Some(path) = words.next() else {
         let depot = four_junctions(heap)?;
-        return open(rt, &depot, true);
+        return serve(rt, &depot, Kind::Clock, true);
+    };
+    let kind = match words.next() {
+        Some(word) => kind_of(word.as_bytes()),
+        None => Some(Kind::Clock),
+    };
+    let Some(kind) = kind else {
+        println!(rt, "chargefinder [DEPOT [clock|length]]")?;
+        return Ok(());
     };
     let text = fs::read(rt, path.as_str())?;
     match read_depot(heap, text.as_slice()) {
-        Ok(depot) => open(rt, &depot, false),
+        Ok(depot) => serve(rt, &depot, kind, false),
         Err(fault) => {
             println!(rt, "{fault}")?;
             Ok(())
@@ -39,31 +47,19 @@ fn run(rt: &LibcRuntime) -> Result<(), AnyError> {
     }
 }
 
-// The roads of a depot, and then its commands; or what the depot is refused by.
-fn open(rt: &LibcRuntime, depot: &Depot, built_in: bool) -> Result<(), AnyError> {
-    match clock_tables(rt.alloc(), depot)?.examine() {
-        Ok(roads) => {
-            println!(rt, "roads clock")?;
-            serve(rt, &roads, built_in)?;
-        }
-        Err(refused) => {
-            let refusal = refused.fault.refusal();
-            println!(rt, "{refusal}")?;
-        }
-    }
-    Ok(())
-}
-
 // One command a line; on the built-in depot, some worked drives where there is no line.
-fn serve(rt: &LibcRuntime, roads: &ClockRoads, built_in: bool) -> Result<(), AnyError> {
+fn serve(rt: &LibcRuntime, depot: &Depot, kind: Kind, built_in: bool) -> Result<(), AnyError> {
+    let Some(mut roads) = open_roads(rt, depot, kind)? else {
+        return Ok(());
+    };
     let mut number: u64 = 0;
     for line in rt.lines(rt.alloc()) {
         let text = line?;
         number = number.saturating_add(1);
-        answer(rt, roads, number, text.as_bytes())?;
+        answer(rt, depot, &mut roads, number, text.as_bytes())?;
     }
     if built_in && number == 0 {
-        show_worked(rt, roads)?;
+        show_worked(rt, depot, &mut roads)?;
     }
     Ok(())
 }

@@ -9,9 +9,22 @@ use depot::find_named;
 pub enum Verb {
     Carry,
     Drive,
+    Close,
+    Reopen,
+    Detour,
+    Lift,
+    Roads,
 }
 
-const VERBS: [Verb; 2] = [Verb::Carry, Verb::Drive];
+const VERBS: [Verb; 7] = [
+    Verb::Carry,
+    Verb::Drive,
+    Verb::Close,
+    Verb::Reopen,
+    Verb::Detour,
+    Verb::Lift,
+    Verb::Roads,
+];
 
 pub impl Named for Verb as VerbNamed {
     ghost called = { verb-name };
@@ -20,6 +33,11 @@ pub impl Named for Verb as VerbNamed {
         match self {
             Verb::Carry => b"carry",
             Verb::Drive => b"drive",
+            Verb::Close => b"close",
+            Verb::Reopen => b"reopen",
+            Verb::Detour => b"detour",
+            Verb::Lift => b"lift",
+            Verb::Roads => b"roads",
         }
     }
 }

@@ -1,8 +1,11 @@
-// Opens one depot file after another, and prints what each is answered.
+// Opens one depot file after another, and prints what each is answered as clock roads and as length roads.
 use clock::TableFaultRefusal;
 use console::clock_tables;
+use console::length_tables;
+use depot::Depot;
 use depot::ReadFaultDisplay;
 use depot::read_depot;
+use length::LengthFaultRefusal;
 use network::Fault;
 use network::RefusalDisplay;
 use std::env;
@@ -22,17 +25,33 @@ fn run(rt: &LibcRuntime) -> Result<(), AnyError> {
 }
 
 fn show(rt: &LibcRuntime, path: &str) -> Result<(), AnyError> {
-    let heap = rt.alloc();
     let text = fs::read(rt, path)?;
-    let depot = match read_depot(heap, text.as_slice()) {
-        Ok(depot) => depot,
+    match read_depot(rt.alloc(), text.as_slice()) {
+        Ok(depot) => {
+            show_clock(rt, &depot)?;
+            show_length(rt, &depot)
+        }
         Err(fault) => {
             println!(rt, "{fault}")?;
-            return Ok(());
+            Ok(())
         }
-    };
-    match clock_tables(heap, &depot)?.examine() {
-        Ok(_roads) => println!(rt, "roads clock")?,
+    }
+}
+
+fn show_clock(rt: &LibcRuntime, depot: &Depot) -> Result<(), AnyError> {
+    match clock_tables(rt.alloc(), depot)?.examine() {
+        Ok(_roads) => print!(rt, "roads clock, ")?,
+        Err(refused) => {
+            let refusal = refused.fault.refusal();
+            print!(rt, "{refusal}, ")?;
+        }
+    }
+    Ok(())
+}
+
+fn show_length(rt: &LibcRuntime, depot: &Depot) -> Result<(), AnyError> {
+    match length_tables(rt.alloc(), depot)?.examine() {
+        Ok(_roads) => println!(rt, "roads length")?,
         Err(refused) => {
             let refusal = refused.fault.refusal();
             println!(rt, "{refusal}")?;

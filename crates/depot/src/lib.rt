@@ -16,6 +16,7 @@ pub use depots::read_depot;
 pub use entry::Entry;
 pub use entry::EntryDebug;
 pub use entry::read_entry;
+pub use entry::split_name;
 pub use fault::EntryFault;
 pub use fault::EntryFaultDebug;
 pub use fault::EntryFaultFromAlloc;

@@ -6,9 +6,8 @@ ghost use Rattle.depot.specs.Depots.{grown, gathered};
 ghost use Rattle.depot.specs.Reads.{items, Reads};
 ghost use Rattle.depot.specs.Says.{Says};
 use crate::cut::first_line;
-use crate::cut::first_word;
-use crate::cut::without_comment;
 use crate::entry::read_numbers;
+use crate::entry::split_name;
 use crate::fault::EntryFault;
 use crate::fault::EntryFaultFromRefused;
 use crate::fault::ReadFault;
@@ -25,7 +24,7 @@ use std::alloc::Global;
 fn read_line(heap: Global, listings: &mut Vec<Listing>, line: &[u8]) -> Result<(), EntryFault>
     ensures { λ r. ⌜ Says (λ _. items (vec-items (now (listings .exit)))) r (grown (items (vec-items (now (listings .entry)))) (words (code (now (line .entry))))) ⌝ }
 {
-    let Some((name, rest)) = first_word(without_comment(line)) else {
+    let Some((name, rest)) = split_name(line) else {
         return Ok(());
     };
     let Some(part) = part_of(name) else {

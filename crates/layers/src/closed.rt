@@ -3,7 +3,7 @@ ghost use Prim.Native.Nat.{_≤_};
 
 #[derive(Drop)]
 pub struct Closures<G> {
-    pub(crate) below: G,
+    pub below: G,
     pub(crate) arcs: [u32; 64],
     pub(crate) count: usize,
     ghost fits: { count ≤ 64 },

@@ -6,7 +6,7 @@ use crate::detour::Detour;
 
 #[derive(Drop)]
 pub struct Detours<G> {
-    pub(crate) below: G,
+    pub below: G,
     pub(crate) detours: [Detour; 32],
     pub(crate) count: usize,
     ghost fits: { count ≤ 32 },

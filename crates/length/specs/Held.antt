@@ -7,7 +7,6 @@ use Rattle.std.specs.declared.option.Option.{Option}
 use Rattle.std.specs.declared.option.Option.the-variants.{Some, None}
 use Rattle.std.specs.declared.result.Result.{Result}
 use Rattle.std.specs.declared.result.Result.the-variants.{Ok, Err}
-use Rattle.network.specs.declared.lists.Streets.{Streets}
 use Rattle.network.specs.declared.refusals.Refusal.{Refusal}
 use Rattle.length.specs.Faults.{length-fault}
 use Rattle.length.specs.Metres.{table-refusal}
@@ -16,25 +15,20 @@ use Rattle.length.specs.declared.roads.LengthRoads.{LengthRoads}
 use Rattle.length.specs.declared.tables.LengthTables.{LengthTables}
 use Rattle.length.specs.declared.tables.RefusedLengths.{RefusedLengths}
 
-abbrev pub table-lists : LengthTables → Tables
-table-lists t = record {
-  starts = vec-items (t .starts);
-  heads = vec-items (t .heads);
-  metres = vec-items (t .metres);
-  sites = vec-items (t .sites);
+-- four lists as tables
+abbrev pub listed : (starts heads metres sites : Vec ℕ Global) → Tables
+listed starts heads metres sites = record {
+  starts = vec-items starts;
+  heads = vec-items heads;
+  metres = vec-items metres;
+  sites = vec-items sites;
 }
 
--- streets and metres together
-abbrev pub held : Streets → (metres : Vec ℕ Global) → Tables
-held s metres = record {
-  starts = vec-items (s .starts);
-  heads = vec-items (s .heads);
-  metres = vec-items metres;
-  sites = vec-items (s .sites);
-}
+abbrev pub table-lists : LengthTables → Tables
+table-lists t = listed (t .starts) (t .heads) (t .metres) (t .sites)
 
 abbrev pub road-lists : LengthRoads → Tables
-road-lists r = held (r .streets) (r .metres)
+road-lists r = listed (r .streets .starts) (r .streets .heads) (r .metres) (r .streets .sites)
 
 -- a refusal, with the tables handed back
 abbrev pub handed-back : RefusedLengths → Refusal × Tables

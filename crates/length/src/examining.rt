@@ -1,13 +1,11 @@
 // Examining turns raw tables into length roads, or says what is wrong with them.
 ghost use mathlib.Core.Path.{_≡_};
-ghost use mathlib.Core.Bool.{true};
-ghost use lib.ListN.{length};
 ghost use Rattle.length.specs.Faults.{length-fault};
-ghost use Rattle.length.specs.Held.{held, table-lists, road-lists, handed-back, examined};
+ghost use Rattle.length.specs.Held.{listed, table-lists, road-lists, handed-back, examined};
 ghost use Rattle.length.specs.Metres.{measured, table-refusal};
 ghost use Rattle.network.specs.Refused.{refused};
-ghost use Rattle.std.specs.Of.Vec.{vec-items};
 ghost use Rattle.std.specs.Results.{mapped};
+ghost use Rattle.std.specs.declared.option.Option.the-variants.{None};
 use crate::faults::LengthFault;
 use crate::faults::LengthFaultFromStreets;
 use crate::roads::LengthRoads;
@@ -63,23 +61,25 @@ impl LengthTables {
             metres,
             sites,
         } = self;
-        let streets = Streets {
-            starts,
-            heads,
-            sites,
-        };
-        Ok(LengthRoads { streets, metres })
+        Ok(built(starts, heads, metres, sites))
     }
 }
 
-fn raw(streets: Streets, metres: Vec<u32>) -> LengthTables
-    ensures { λ r. ⌜ table-lists r ≡ held streets metres ⌝ }
+fn built(starts: Vec<u32>, heads: Vec<u32>, metres: Vec<u32>, sites: Vec<u32>) -> LengthRoads
+    requires { ⌜ table-refusal (listed starts heads metres sites) ≡ None ⌝ }
+    ensures { λ r. ⌜ road-lists r ≡ listed starts heads metres sites ⌝ }
 {
-    let Streets {
+    let streets = Streets {
         starts,
         heads,
         sites,
-    } = streets;
+    };
+    LengthRoads { streets, metres }
+}
+
+fn raw(starts: Vec<u32>, heads: Vec<u32>, metres: Vec<u32>, sites: Vec<u32>) -> LengthTables
+    ensures { λ r. ⌜ table-lists r ≡ listed starts heads metres sites ⌝ }
+{
     LengthTables {
         starts,
         heads,
@@ -94,6 +94,11 @@ impl LengthRoads {
         ensures { λ r. ⌜ table-lists r ≡ road-lists self ⌝ }
     {
         let LengthRoads { streets, metres } = self;
-        raw(streets, metres)
+        let Streets {
+            starts,
+            heads,
+            sites,
+        } = streets;
+        raw(starts, heads, metres, sites)
     }
 }

@@ -5,12 +5,20 @@ use Prim.Native.Nat.{ℕ}
 use Rattle.std.specs.declared.option.Option.the-variants.{Some, None}
 use Rattle.clock.specs.Model.{clock-roads}
 use Rattle.clock.specs.Points.{table-refusal}
-use Rattle.network.specs.Model.{arrival}
+use Rattle.console.specs.Kinds.{length-tables}
+use Rattle.length.specs.Model.{length-roads}
+use Rattle.length.specs.Readings.{height-of}
+use Rattle.network.specs.Layers.{closed, detoured}
+use Rattle.network.specs.Model.{Roads, arrival}
 use Rattle.network.specs.Paths.{along}
 use Rattle.network.specs.Refused.{refusal}
 use Rattle.network.specs.declared.refusals.Places.the-variants.{Two}
-use Rattle.town.specs.FourJunctions.{town, one-arc}
+use Rattle.town.specs.FourJunctions.{four-junctions, town, one-arc}
 use Rattle.town.specs.Frozen.{frozen}
+
+-- the built-in depot as length roads
+abbrev pub lengths : Roads
+lengths = length-roads (length-tables four-junctions)
 
 pub record Worked-arrivals : Type 0 where
   -- the built-in tables are not refused
@@ -29,3 +37,10 @@ pub record Worked-refusals : Type 0 where
   pub falling : table-refusal (one-arc (0 ∷ 600 ∷ 86400 ∷ []) (900 ∷ 800 ∷ 86500 ∷ [])) ≡ Some (refusal 7 (Two 0 1))
   -- an arrival that is not after its departure
   pub early : table-refusal (one-arc (0 ∷ 600 ∷ 86400 ∷ []) (100 ∷ 600 ∷ 86500 ∷ [])) ≡ Some (refusal 6 (Two 0 1))
+
+pub record Worked-lengths : Type 0 where
+  -- arc 1 and then arc 3 from 0: 900 metres after 2 arcs
+  pub arcs-1-3 : along lengths (height-of (0, 0)) (1 ∷ 3 ∷ []) ≡ Some (height-of (900, 2))
+  -- with arc 3 closed, nothing; with a detour of 60 on arc 1, 960 metres
+  pub arc-3-closed : along (closed (3 ∷ []) lengths) (height-of (0, 0)) (1 ∷ 3 ∷ []) ≡ None
+  pub detour-on-arc-1 : along (detoured ((1, 60) ∷ []) lengths) (height-of (0, 0)) (1 ∷ 3 ∷ []) ≡ Some (height-of (960, 2))

@@ -3,7 +3,7 @@ ghost use mathlib.Core.Path.{_≡_};
 ghost use Rattle.depot.specs.Reads.{seen};
 ghost use Rattle.std.specs.Vec.{made};
 ghost use Rattle.town.specs.FourJunctions.{four-junctions, four-with};
-ghost use Rattle.town.specs.Worked.{Worked-arrivals, Worked-refusals};
+ghost use Rattle.town.specs.Worked.{Worked-arrivals, Worked-refusals, Worked-lengths};
 use depot::Depot;
 use std::alloc::AllocError;
 use std::alloc::Global;
@@ -48,6 +48,7 @@ pub fn four_junctions(heap: Global) -> Result<Depot, AllocError>
     ensures lists { λ r. ⌜ made r (λ d. seen d ≡ four-junctions) ⌝ }
     ensures arrivals { λ _. ⌜ Worked-arrivals ⌝ }
     ensures refusals { λ _. ⌜ Worked-refusals ⌝ }
+    ensures lengths { λ _. ⌜ Worked-lengths ⌝ }
 {
     four_with(heap, 2, 1)
 }

@@ -26,5 +26,5 @@ room c =
 
 pub returns : need.returns
 returns c =
-    line-in _ _ _ _ _ _ (ap words (sym (c .without-comment .ensures)) ∙ c .in-Some .ensures tt .value) (c .in-Some-part-of .ensures tt) (c .in-Continue-numbers .ensures tt) (room c)
+    line-in _ _ _ _ _ _ (c .in-Some .ensures tt) (c .in-Some-part-of .ensures tt) (c .in-Continue-numbers .ensures tt) (room c)
     ∙ ap Ok (sym (ap items (c .in-Continue-push .ensures tt .items) ∙ map-push item _ _))

@@ -1,0 +1,10 @@
+pub mod Writing
+pub mod Holding
+pub mod Sifting
+pub mod Least
+pub mod Counting
+pub mod Changing
+pub mod Mending
+pub mod Taking
+pub mod Seen
+pub mod Firsts
