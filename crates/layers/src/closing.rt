@@ -6,6 +6,7 @@ ghost use Rattle.layers.specs.Changes.{adding, lifting, without, changed, Foun
 ghost use Rattle.layers.specs.Faults.{layer-fault};
 ghost use Rattle.layers.specs.Held.{closed-arcs};
 ghost use Rattle.network.specs.Layers.{stands};
+ghost use Rattle.network.specs.Piles.{Piles-keep-the-rules};
 ghost use Rattle.network.specs.Refused.{refused};
 ghost use Rattle.std.specs.Options.{Cases};
 use crate::bounded::close_gap;
@@ -20,6 +21,7 @@ impl<G> Closures<G> {
     pub fn over(below: G) -> Closures<G>
         ensures arcs { λ r. ⌜ closed-arcs r ≡ [] ⌝ }
         ensures below { λ r. ⌜ r .below ≡ below ⌝ }
+        ensures piles { λ _. ⌜ Piles-keep-the-rules ⌝ }
     {
         Closures {
             below,

@@ -11,6 +11,7 @@ use Rattle.network.specs.First.{onward}
 use Rattle.network.specs.Laws.{WellFormed, Lawful}
 use Rattle.network.specs.Layers.{carrying, closed, detoured, stands, units-of, lengthened, Layer, closures, detours, layered, pile}
 use Rattle.network.specs.Model.{Roads}
+use Rattle.network.specs.Piles.{Piles-keep-the-rules}
 use Rattle.network.specs.Paths.{Chain, along, Path}
 use Rattle.network.proofs.First.{clash}
 use Rattle.network.proofs.Following.{onward-from, onward-at, some-same}
@@ -152,6 +153,6 @@ layered-keeps (detours ds) m estimate k = record {
   admissible = detoured-admissible m (k .wellformed) (k .lawful) ds estimate (k .admissible);
 }
 
-pub pile-keeps : (ls : List Layer) (m : Roads) (estimate : Estimate) → Keeps m estimate → Keeps (pile ls m) estimate
+pub pile-keeps : Piles-keep-the-rules
 pile-keeps [] m estimate k = k
 pile-keeps (l ∷ ls) m estimate k = layered-keeps l (pile ls m) estimate (pile-keeps ls m estimate k)

@@ -4,6 +4,7 @@ pub mod Paths
 pub mod Laws
 pub mod Estimates
 pub mod Layers
+pub mod Piles
 pub mod Refused
 pub mod Lists
 pub mod Sets
