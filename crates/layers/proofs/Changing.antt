@@ -27,9 +27,6 @@ module _ {X : Type 0} (on : X → ℕ) (arcs most : ℕ) (xs : List X) (a : ℕ)
   pub add-fine : (u : Bool) → u ≡ true → stands on xs a ≡ false → length xs < most → adding on arcs most u xs a ≡ None
   add-fine u f e l = let d = lt-ltb a arcs there in let m = lt-ltb (length xs) most l in rw (d, f, e, m)
 
-  pub lift-none : stands on xs a ≡ false → lifting on arcs xs a ≡ Some (refusal 37 Call)
-  lift-none e = let d = lt-ltb a arcs there in rw (d, e)
-
   pub lift-fine : stands on xs a ≡ true → lifting on arcs xs a ≡ None
   lift-fine e = let d = lt-ltb a arcs there in rw (d, e)
 

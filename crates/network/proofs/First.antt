@@ -70,15 +70,6 @@ module _ {X : Type 0} (f : ℕ → Option X) where
       (λ p. first-suc n ∙ ap (λ o. orOther o (f n)) (first-at n i x (omega arith) h e))
       (cases-eq i n)
 
-  -- an answer below is the answer of more
-  pub first-kept : (n m : ℕ) (x : X) → n ≤ m → first-of f n ≡ Some x → first-of f m ≡ Some x
-  first-kept n zero x l e = subst (λ k. first-of f k ≡ Some x) (omega arith) e
-  first-kept n (suc m) x l e =
-      ⊎-elim
-      (λ p. subst (λ k. first-of f k ≡ Some x) p e)
-      (λ p. first-suc m ∙ ap (λ o. orOther o (f m)) (first-kept n m x (omega arith) e))
-      (cases-eq n (suc m))
-
   pub none-below : (n : ℕ) → first-of f n ≡ None → (i : ℕ) → i < n → f i ≡ None
   none-below zero e i l = absurd (omega arith)
   none-below (suc n) e i l =
@@ -101,9 +92,6 @@ module _ (p : ℕ → Bool) where
   unfolding every
   every-suc n = refl
 
-  pub every-more : (n : ℕ) → every p (n + 1) ≡ (every p n && p n)
-  every-more n = ap (every p) (add-one n) ∙ every-suc n
-
   pub every-below : (n : ℕ) → every p n ≡ true → (i : ℕ) → i < n → p i ≡ true
   every-below zero e i l = absurd (omega arith)
   every-below (suc n) e i l =
@@ -116,14 +104,6 @@ module _ (p : ℕ → Bool) where
   pub every-from : (n : ℕ) → ((i : ℕ) → i < n → p i ≡ true) → every p n ≡ true
   every-from zero h = every-zero
   every-from (suc n) h = every-suc n ∙ and-from (every p n) (p n) (every-from n (λ i l. h i (omega arith))) (h n (omega arith))
-
-  -- one failing test fails all of them
-  pub every-fails : (n i : ℕ) → i < n → p i ≡ false → every p n ≡ false
-  every-fails n i l e = go (every p n) refl
-    where
-      go : (b : Bool) → every p n ≡ b → b ≡ false
-      go false q = refl
-      go true q = let z : true ≡ false = sym (every-below n q i l) ∙ e in z
 
 -- what does not fall at any step does not fall over many
 pub climb : (f : ℕ → ℕ) (first end : ℕ) → ((p : ℕ) → first ≤ p → suc p < end → f p ≤ f (suc p)) → (i j : ℕ) → first ≤ i → i ≤ j → j < end → f i ≤ f j
