@@ -6,15 +6,15 @@ use Rattle.network.proofs.First.{unless_true, unless_false, first_zero, none_unt
 use Rattle.network.proofs.Refusing.{arcs_miscounted, arcs_misrun, arcs_then, head_at, still_none, found}
 use Rattle.network.proofs.checks.check_arcs.Goals as goal
 
-pub returns-then-count-lt-LEAST-STARTS : goal.returns-then-count-lt-LEAST-STARTS
-returns-then-count-lt-LEAST-STARTS c = sym (arcs_miscounted c.args.starts.now c.args.heads.now (λ l m. omega arith))
+pub returns-then-count-lt-LEAST_STARTS : goal.returns-then-count-lt-LEAST_STARTS
+returns-then-count-lt-LEAST_STARTS c = sym (arcs_miscounted c.args.starts.now c.args.heads.now (λ l m. omega arith))
 
-pub returns-then-not-runs-to : goal.returns-then-not-runs-to
-returns-then-not-runs-to c = sym (arcs_misrun c.args.starts.now c.args.heads.now (omega arith) (omega arith)
-    (λ r k. ⊎_elim (λ f. both_ways c.runs-to.result f (c.runs-to.ensures ∙ r)) (λ p. let m = p.1 in omega arith) c.then-not-runs-to.either))
+pub returns-then-not-runs_to : goal.returns-then-not-runs_to
+returns-then-not-runs_to c = sym (arcs_misrun c.args.starts.now c.args.heads.now (omega arith) (omega arith)
+    (λ r k. ⊎_elim (λ f. both_ways c.runs_to.result f (c.runs_to.ensures ∙ r)) (λ p. let m = p.1 in omega arith) c.then-not-runs_to.either))
 
 pub loop-arc-init : goal.loop-arc-init
-loop-arc-init c = (omega arith, omega arith, sym c.if-not-runs-to.ensures, c.if-heads-gt-MOST-ARCS.false, first_zero (head_at c.args.starts.now c.args.heads.now))
+loop-arc-init c = (omega arith, omega arith, sym c.if-not-runs_to.ensures, c.if-heads-gt-MOST_ARCS.false, first_zero (head_at c.args.starts.now c.args.heads.now))
 
 pub returns-then-heads-arc : goal.returns-then-heads-arc
 returns-then-heads-arc c =

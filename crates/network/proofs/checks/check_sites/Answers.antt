@@ -6,8 +6,8 @@ use Rattle.network.proofs.First.{unless_true, unless_false, first_zero, none_unt
 use Rattle.network.proofs.Refusing.{site_at, sites_many, sites_then, still_none, found}
 use Rattle.network.proofs.checks.check_sites.Goals as goal
 
-pub returns-then-sites-gt-MOST-SITES : goal.returns-then-sites-gt-MOST-SITES
-returns-then-sites-gt-MOST-SITES c = sym (sites_many c.args.junctions c.args.sites.now (omega arith))
+pub returns-then-sites-gt-MOST_SITES : goal.returns-then-sites-gt-MOST_SITES
+returns-then-sites-gt-MOST_SITES c = sym (sites_many c.args.junctions c.args.sites.now (omega arith))
 
 pub loop-site-init : goal.loop-site-init
 loop-site-init c = (omega arith, first_zero (site_at c.args.junctions c.args.sites.now))

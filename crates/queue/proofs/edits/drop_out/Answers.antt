@@ -14,9 +14,9 @@ returns-in-Some g c =
     let low = at.0 in
     let d = some_slot (held room) (omega arith) in
     record {
-      long = c.remove-at.ensures.long;
-      whole = c.remove-at.ensures.whole;
-      updated = subst (λ h. Updated (queued handled room) (queued handled c.remove-at.new.room) h None)
+      long = c.remove_at.ensures.long;
+      whole = c.remove_at.ensures.whole;
+      updated = subst (λ h. Updated (queued handled room) (queued handled c.remove_at.new.room) h None)
           (held_by handled (held room) room.len c.args.handle (item (held room) d c.in-Some.at) d fits (at.1 d)).bears
-          (c.remove-at.ensures.updated d);
+          (c.remove_at.ensures.updated d);
     }

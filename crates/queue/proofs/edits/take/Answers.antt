@@ -16,8 +16,8 @@ returns g c =
     let d = c.index-room-top.result in
     let met = g.met.T.Keyed in
     record {
-      long = c.remove-at.ensures.long;
-      whole = c.remove-at.ensures.whole;
+      long = c.remove_at.ensures.long;
+      whole = c.remove_at.ensures.whole;
       least = sym (top_is_least g.T.Keyed.handled g.T.Keyed.before (held c.args.room.now) c.args.room.now.len met.oneway met.chain met.total c.requires (omega arith) d);
-      without = c.remove-at.ensures.updated d;
+      without = c.remove_at.ensures.updated d;
     }

@@ -16,8 +16,8 @@ returns g c =
     let lj = c.requires.inside.1 in
     record {
       len = refl;
-      kept = swapped_kept handled s c.exchange-places.new.slots c.args.room.now.len i j p (c.exchange-places.ensures.long ∙ c.exchange-items.ensures.long) li lj
-          (λ d. swapped_same (c.exchange-items.ensures.items d) (c.exchange-places.ensures.items d))
-          (λ d. same_swapped c.handle-a.result c.handle-b.result (c.handle-a.ensures ∙ ap handled (any_item s i c.index-room-i.result d (omega arith))) (c.handle-b.ensures ∙ ap handled (any_item s j c.index-room-j.result d (omega arith))) (c.exchange-items.ensures.places d) (c.exchange-places.ensures.places d));
-      items = λ d. swapped_same (c.exchange-items.ensures.items d) (c.exchange-places.ensures.items d);
+      kept = swapped_kept handled s c.exchange_places.new.slots c.args.room.now.len i j p (c.exchange_places.ensures.long ∙ c.exchange_items.ensures.long) li lj
+          (λ d. swapped_same (c.exchange_items.ensures.items d) (c.exchange_places.ensures.items d))
+          (λ d. same_swapped c.handle-a.result c.handle-b.result (c.handle-a.ensures ∙ ap handled (any_item s i c.index-room-i.result d (omega arith))) (c.handle-b.ensures ∙ ap handled (any_item s j c.index-room-j.result d (omega arith))) (c.exchange_items.ensures.places d) (c.exchange_places.ensures.places d));
+      items = λ d. swapped_same (c.exchange_items.ensures.items d) (c.exchange_places.ensures.items d);
     }

@@ -2,8 +2,8 @@ use Rattle.std.proofs.Common.{arith}
 use Rattle.network.proofs.Refusing.{streets_arcs}
 use Rattle.network.proofs.lists.Streets.junctions.Goals as goal
 
-pub overflow-sub-result : goal.overflow-sub-result
-overflow-sub-result c = let ok = streets_arcs c.args.self.now in let e = c.args.self.now.starts.ok.0 in omega arith
+pub overflow_sub-result : goal.overflow_sub-result
+overflow_sub-result c = let ok = streets_arcs c.args.self.now in let e = c.args.self.now.starts.ok.0 in omega arith
 
-pub overflow-cast-result : goal.overflow-cast-result
-overflow-cast-result c = let ok = streets_arcs c.args.self.now in let e = c.args.self.now.starts.ok.0 in omega arith
+pub overflow_cast-result : goal.overflow_cast-result
+overflow_cast-result c = let ok = streets_arcs c.args.self.now in let e = c.args.self.now.starts.ok.0 in omega arith

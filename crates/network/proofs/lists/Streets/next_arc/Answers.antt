@@ -4,8 +4,8 @@ use Rattle.network.proofs.Refusing.{streets_arcs}
 use Rattle.network.proofs.Tails.{leaves, leaves_none, tail_says}
 use Rattle.network.proofs.lists.Streets.next_arc.Goals as goal
 
-pub overflow-sub-len : goal.overflow-sub-len
-overflow-sub-len c = let ok = streets_arcs c.args.self.now in let e = c.args.self.now.starts.ok.0 in omega arith
+pub overflow_sub-len : goal.overflow_sub-len
+overflow_sub-len c = let ok = streets_arcs c.args.self.now in let e = c.args.self.now.starts.ok.0 in omega arith
 
 pub returns-then-v-len : goal.returns-then-v-len
 returns-then-v-len c =

@@ -6,21 +6,21 @@ use Rattle.network.proofs.Refusing.{streets_arcs}
 use Rattle.network.proofs.Tails.{tail_bound}
 use Rattle.network.proofs.lists.Streets.tail.Goals as goal
 
-pub overflow-add-arc : goal.overflow-add-arc
-overflow-add-arc c = let ok = streets_arcs c.args.self.now in let e = c.args.self.now.heads.ok.0 in omega arith
+pub overflow_add-arc : goal.overflow_add-arc
+overflow_add-arc c = let ok = streets_arcs c.args.self.now in let e = c.args.self.now.heads.ok.0 in omega arith
 
-bound : (c : goal.After-lower-bound-after) → (1 ≤ c.lower-bound-after.result) × (c.lower-bound-after.result < length (vec_items c.args.self.now.starts)) × (tail_of (vec_items c.args.self.now.starts) c.args.arc ≡ c.lower-bound-after.result - 1)
+bound : (c : goal.After-lower_bound-after) → (1 ≤ c.lower_bound-after.result) × (c.lower_bound-after.result < length (vec_items c.args.self.now.starts)) × (tail_of (vec_items c.args.self.now.starts) c.args.arc ≡ c.lower_bound-after.result - 1)
 bound c =
     let s = c.args.self.now in
     let e = s.heads.ok.0 in
-    tail_bound (vec_items s.starts) (vec_items s.heads) (streets_arcs s) c.args.arc c.lower-bound-after.result (omega arith)
-    (subst (λ l. LowerBound l (c.args.arc + 1) c.lower-bound-after.result) c.as-slice.ensures.value c.lower-bound-after.ensures)
+    tail_bound (vec_items s.starts) (vec_items s.heads) (streets_arcs s) c.args.arc c.lower_bound-after.result (omega arith)
+    (subst (λ l. LowerBound l (c.args.arc + 1) c.lower_bound-after.result) c.as_slice.ensures.value c.lower_bound-after.ensures)
 
-pub overflow-sub-result : goal.overflow-sub-result
-overflow-sub-result c = (bound c).0
+pub overflow_sub-result : goal.overflow_sub-result
+overflow_sub-result c = (bound c).0
 
-pub overflow-cast-result : goal.overflow-cast-result
-overflow-cast-result c = let ok = streets_arcs c.args.self.now in let b = bound c in omega arith
+pub overflow_cast-result : goal.overflow_cast-result
+overflow_cast-result c = let ok = streets_arcs c.args.self.now in let b = bound c in omega arith
 
 pub returns : goal.returns
 returns c =

@@ -4,8 +4,8 @@ use Rattle.queue.specs.Loads.{load_capacity, load_waiting}
 use Rattle.queue.proofs.Changing.{none_sound, none_waits}
 use Rattle.queue.proofs.load_queue.LoadQueue.new.Goals as goal
 
-pub invariant-of-result : goal.invariant-of-result
-invariant-of-result g c = (∣ none_sound entry_handle entry_before c.args.slots.now ∣₁, tt)
+pub invariant_of-result : goal.invariant_of-result
+invariant_of-result g c = (∣ none_sound entry_handle entry_before c.args.slots.now ∣₁, tt)
 
 pub returns : goal.returns
 unfolding load_capacity load_waiting

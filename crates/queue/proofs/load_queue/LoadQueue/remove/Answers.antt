@@ -6,18 +6,18 @@ use Rattle.queue.specs.Loads.{load_capacity, load_waiting}
 use Rattle.queue.proofs.Seen.{load_whole, remove_count}
 use Rattle.queue.proofs.load_queue.LoadQueue.remove.Goals as goal
 
-pub drop-out-requires : goal.drop-out-requires
-drop-out-requires g c = load_whole c.args.self.now
+pub drop_out-requires : goal.drop_out-requires
+drop_out-requires g c = load_whole c.args.self.now
 
-pub invariant-of-self : goal.invariant-of-self
-invariant-of-self g c = (∣ c.drop-out.ensures.whole ∣₁, tt)
+pub invariant_of-self : goal.invariant_of-self
+invariant_of-self g c = (∣ c.drop_out.ensures.whole ∣₁, tt)
 
 pub returns : goal.returns
 unfolding load_capacity load_waiting
 returns g c =
-    let fix = c.drop-out.ensures in
+    let fix = c.drop_out.ensures in
     let now = c.args.self.now in
-    let then = c.drop-out.new.room in
+    let then = c.drop_out.new.room in
     record {
       capacity = fix.long;
       none = fix.updated;

@@ -9,8 +9,8 @@ use Rattle.queue.proofs.load_queue.LoadQueue.take_least.Goals as goal
 pub take-requires : goal.take-requires
 take-requires g c = load_whole c.args.self.now
 
-pub invariant-of-self : goal.invariant-of-self
-invariant-of-self g c = (∣ c.take.ensures.whole ∣₁, tt)
+pub invariant_of-self : goal.invariant_of-self
+invariant_of-self g c = (∣ c.take.ensures.whole ∣₁, tt)
 
 pub returns : goal.returns
 unfolding load_capacity load_waiting

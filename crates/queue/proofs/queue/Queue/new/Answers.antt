@@ -4,8 +4,8 @@ use Rattle.queue.specs.Queues.{capacity, waiting}
 use Rattle.queue.proofs.Changing.{none_sound, none_waits}
 use Rattle.queue.proofs.queue.Queue.new.Goals as goal
 
-pub invariant-of-result : goal.invariant-of-result
-invariant-of-result c = (∣ none_sound key_handle key_before c.args.slots.now ∣₁, tt)
+pub invariant_of-result : goal.invariant_of-result
+invariant_of-result c = (∣ none_sound key_handle key_before c.args.slots.now ∣₁, tt)
 
 pub returns : goal.returns
 unfolding capacity waiting

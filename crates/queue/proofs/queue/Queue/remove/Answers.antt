@@ -6,18 +6,18 @@ use Rattle.queue.specs.Queues.{capacity, waiting}
 use Rattle.queue.proofs.Seen.{whole_of, remove_count}
 use Rattle.queue.proofs.queue.Queue.remove.Goals as goal
 
-pub drop-out-requires : goal.drop-out-requires
-drop-out-requires c = whole_of c.args.self.now
+pub drop_out-requires : goal.drop_out-requires
+drop_out-requires c = whole_of c.args.self.now
 
-pub invariant-of-self : goal.invariant-of-self
-invariant-of-self c = (∣ c.drop-out.ensures.whole ∣₁, tt)
+pub invariant_of-self : goal.invariant_of-self
+invariant_of-self c = (∣ c.drop_out.ensures.whole ∣₁, tt)
 
 pub returns : goal.returns
 unfolding capacity waiting
 returns c =
-    let fix = c.drop-out.ensures in
+    let fix = c.drop_out.ensures in
     let now = c.args.self.now in
-    let then = c.drop-out.new.room in
+    let then = c.drop_out.new.room in
     record {
       capacity = fix.long;
       none = fix.updated;

@@ -10,8 +10,8 @@ pub put-requires : goal.put-requires
 unfolding capacity
 put-requires c = record { whole = whole_of c.args.self.now; fits = subst (λ n. c.args.key.junction < n) c.capacity.ensures c.if-key-capacity.true }
 
-pub invariant-of-self : goal.invariant-of-self
-invariant-of-self c = (∣ c.put.ensures.whole ∣₁, tt)
+pub invariant_of-self : goal.invariant_of-self
+invariant_of-self c = (∣ c.put.ensures.whole ∣₁, tt)
 
 pub returns-then-key-capacity : goal.returns-then-key-capacity
 unfolding capacity waiting

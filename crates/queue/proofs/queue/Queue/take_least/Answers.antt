@@ -9,8 +9,8 @@ use Rattle.queue.proofs.queue.Queue.take_least.Goals as goal
 pub take-requires : goal.take-requires
 take-requires c = whole_of c.args.self.now
 
-pub invariant-of-self : goal.invariant-of-self
-invariant-of-self c = (∣ c.take.ensures.whole ∣₁, tt)
+pub invariant_of-self : goal.invariant_of-self
+invariant_of-self c = (∣ c.take.ensures.whole ∣₁, tt)
 
 pub returns : goal.returns
 unfolding capacity waiting
