@@ -9,13 +9,13 @@ use Rattle.clock.proofs.points.check_arc.Goals as goal
 pub loop-j-init : goal.loop-j-init
 loop-j-init c = first_zero (place_refusal c.args.points.now c.args.departures.now c.args.arrivals.now c.args.arc)
 
-pub returns-in-err-check-point : goal.returns-in-err-check-point
-returns-in-err-check-point c =
-    let p = err_from_is_err_and c.from-residual.result c.from-residual.ensures.1 in
-    rw (p.1, p.2) (sym (arc_is c.args.points.now c.args.departures.now c.args.arrivals.now c.args.arc ∙ found (place_refusal c.args.points.now c.args.departures.now c.args.arrivals.now c.args.arc) c.loop-j.j c.loop-j.invariant (get_or c.args.points.now (c.args.arc + 1) 0 - get_or c.args.points.now c.args.arc 0) (table_fault c.in-err-check-point.field-0.0) (omega arith) (sym c.in-err-check-point.ensures)))
+pub returns-in_err-check_point : goal.returns-in_err-check_point
+returns-in_err-check_point c =
+    let p = err_from_is_err_and c.from_residual.result c.from_residual.ensures.1 in
+    rw (p.1, p.2) (sym (arc_is c.args.points.now c.args.departures.now c.args.arrivals.now c.args.arc ∙ found (place_refusal c.args.points.now c.args.departures.now c.args.arrivals.now c.args.arc) c.loop-j.j c.loop-j.invariant (get_or c.args.points.now (c.args.arc + 1) 0 - get_or c.args.points.now c.args.arc 0) (table_fault c.in_err-check_point.field-0.0) (omega arith) (sym c.in_err-check_point.ensures)))
 
 pub loop-j-preserved : goal.loop-j-preserved
-loop-j-preserved c = still_none (place_refusal c.args.points.now c.args.departures.now c.args.arrivals.now c.args.arc) c.loop-j.j c.loop-j.invariant (sym c.in-ok-check-point.ensures)
+loop-j-preserved c = still_none (place_refusal c.args.points.now c.args.departures.now c.args.arrivals.now c.args.arc) c.loop-j.j c.loop-j.invariant (sym c.in_ok-check_point.ensures)
 
 pub returns : goal.returns
 returns c = sym (arc_is c.args.points.now c.args.departures.now c.args.arrivals.now c.args.arc ∙ none_until (place_refusal c.args.points.now c.args.departures.now c.args.arrivals.now c.args.arc) c.loop-j.j (get_or c.args.points.now (c.args.arc + 1) 0 - get_or c.args.points.now c.args.arc 0) c.loop-j.invariant (omega arith))

@@ -3,9 +3,9 @@ use Rattle.std.proofs.lemmas.Bool.Decides.{nat_tests}
 use Rattle.clock.specs.Points.{departs}
 use Rattle.clock.proofs.points.departure_fits.Goals as goal
 
-pub returns-then-departure-gt-LAST-DEPARTURE : goal.returns-then-departure-gt-LAST-DEPARTURE
+pub returns-then-departure-gt-LAST_DEPARTURE : goal.returns-then-departure-gt-LAST_DEPARTURE
 unfolding departs
-returns-then-departure-gt-LAST-DEPARTURE c = grind (arith, nat_tests)
+returns-then-departure-gt-LAST_DEPARTURE c = grind (arith, nat_tests)
 
 pub returns-then-departure-ne0 : goal.returns-then-departure-ne0
 unfolding departs

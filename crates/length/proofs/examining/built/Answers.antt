@@ -5,11 +5,11 @@ use Rattle.length.specs.Held.{listed}
 use Rattle.length.specs.Measured.{table_says}
 use Rattle.length.proofs.examining.built.Goals as goal
 
-pub invariant-of-streets : goal.invariant-of-streets
-invariant-of-streets c =
+pub invariant_of-streets : goal.invariant_of-streets
+invariant_of-streets c =
     let a = c.args in
     let k = table_says (listed a.starts a.heads a.metres a.sites) c.requires in
-    (none_is (arcs_refusal (vec_items a.starts) (vec_items a.heads)) k.0, (none_is (sites_refusal (length (vec_items a.starts) - 1) (vec_items a.sites)) k.2, tt))
+    record { arcs = none_is (arcs_refusal (vec_items a.starts) (vec_items a.heads)) k.0; sited = none_is (sites_refusal (length (vec_items a.starts) - 1) (vec_items a.sites)) k.2 }
 
-pub invariant-of-result : goal.invariant-of-result
-invariant-of-result c = let a = c.args in ((table_says (listed a.starts a.heads a.metres a.sites) c.requires).1, tt)
+pub invariant_of-result : goal.invariant_of-result
+invariant_of-result c = let a = c.args in record { long = (table_says (listed a.starts a.heads a.metres a.sites) c.requires).1 }

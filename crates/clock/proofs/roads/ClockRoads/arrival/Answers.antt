@@ -19,12 +19,12 @@ pub enter-requires : goal.enter-requires
 enter-requires c =
     let s = c.args.self.now in
     let e = s.streets.heads.ok.0 in
-    (rw (c.as-slice.ensures.value, c.as-slice-2.ensures.value, c.as-slice-3.ensures.value) (roads_open s c.args.arc (omega arith)), c.if-t-gt-LAST-DEPARTURE.false)
+    (rw (c.as_slice.ensures.value, c.as_slice-2.ensures.value, c.as_slice-3.ensures.value) (roads_open s c.args.arc (omega arith)), c.if-t-gt-LAST_DEPARTURE.false)
 
 pub returns : goal.returns
 returns c =
     let s = c.args.self.now in
     let e = s.streets.heads.ok.0 in
-    let given = rw (c.as-slice.ensures.value, c.as-slice-2.ensures.value, c.as-slice-3.ensures.value) at c.enter.ensures in
-    let k = roads_carry s c.args.arc c.value-t.result c.enter.result (omega arith) c.if-t-gt-LAST-DEPARTURE.false given in
+    let given = rw (c.as_slice.ensures.value, c.as_slice-2.ensures.value, c.as_slice-3.ensures.value) at c.enter.ensures in
+    let k = roads_carry s c.args.arc c.value-t.result c.enter.result (omega arith) c.if-t-gt-LAST_DEPARTURE.false given in
     c.new.ensures ∙ provided_true (leb c.enter.result 172800) c.enter.result (le-leb c.enter.result 172800 k.1) ∙ sym k.0 ∙ ap (λ h. clock_carry (road_lists s) c.args.arc h) c.value-t.ensures

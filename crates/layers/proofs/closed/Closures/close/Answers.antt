@@ -20,7 +20,7 @@ returns g c =
     let s = c.args.self.now in
     let l : c.args.arc < (g.G.Network.roads s.below).arcs = search rules in
     record {
-      result = sym (add_fine (λ a. a) (g.G.Network.roads s.below).arcs 64 (closed_arcs s) c.args.arc l _ refl c.in-default.ensures (let t = length-take s.count s.arcs in omega arith));
+      result = sym (add_fine (λ a. a) (g.G.Network.roads s.below).arcs 64 (closed_arcs s) c.args.arc l _ refl c.in_default.ensures (let t = length-take s.count s.arcs in omega arith));
       arcs = take_more_set s.arcs s.count c.args.arc (search rules);
       below = refl;
     }

@@ -23,7 +23,7 @@ returns g c =
     let l : c.args.arc < (g.G.Network.roads s.below).arcs = search rules in
     let fit = and_from (leb 1 c.args.units) (leb c.args.units 3600) (le-leb 1 c.args.units (omega arith)) (le-leb c.args.units 3600 (omega arith)) in
     record {
-      result = sym (add_fine (λ d. d.arc) (g.G.Network.roads s.below).arcs 32 (held_detours s) c.args.arc l (leb 1 c.args.units && leb c.args.units 3600) fit c.in-default.ensures (let t = length-take s.count s.detours in omega arith));
+      result = sym (add_fine (λ d. d.arc) (g.G.Network.roads s.below).arcs 32 (held_detours s) c.args.arc l (leb 1 c.args.units && leb c.args.units 3600) fit c.in_default.ensures (let t = length-take s.count s.detours in omega arith));
       detours = take_more_set s.detours s.count (record { arc = c.args.arc; units = c.args.units }) (search rules);
       below = refl;
     }
@@ -36,7 +36,7 @@ returns-then-self-ge32 g c =
     let n = s.fits in
     let m = s.room in
     record {
-      result = sym (add_full (λ d. d.arc) (g.G.Network.roads s.below).arcs 32 (held_detours s) c.args.arc l (leb 1 c.args.units && leb c.args.units 3600) fit c.in-default.ensures (let t = length-take s.count s.detours in omega arith));
+      result = sym (add_full (λ d. d.arc) (g.G.Network.roads s.below).arcs 32 (held_detours s) c.args.arc l (leb 1 c.args.units && leb c.args.units 3600) fit c.in_default.ensures (let t = length-take s.count s.detours in omega arith));
       detours = refl;
       below = refl;
     }

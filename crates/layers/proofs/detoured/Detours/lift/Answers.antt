@@ -11,14 +11,14 @@ returns g c =
     let f = c.in-Some.ensures in
     record {
       result = sym (lift_fine (λ d. d.arc) (g.G.Network.roads s.below).arcs 0 (held_detours s) c.args.arc l (found_stands (λ d. d.arc) c.args.arc (held_detours s) c.in-Some.at f));
-      detours = array_closed s.detours c.close-gap.new.list _ s.count c.in-Some.at (search rules) (search rules) (search rules) (λ i d m. c.close-gap.ensures.0 i d m) (λ i d m n. c.close-gap.ensures.1 i d m n) ∙ sym (found_without (λ d. d.arc) c.args.arc (held_detours s) c.in-Some.at f);
+      detours = array_closed s.detours c.close_gap.new.list _ s.count c.in-Some.at (search rules) (search rules) (search rules) (λ i d m. c.close_gap.ensures.0 i d m) (λ i d m n. c.close_gap.ensures.1 i d m n) ∙ sym (found_without (λ d. d.arc) c.args.arc (held_detours s) c.in-Some.at f);
       below = refl;
     }
 
-pub invariant-of-self : goal.invariant-of-self
-invariant-of-self g c =
+pub invariant_of-self : goal.invariant_of-self
+invariant_of-self g c =
     let s = c.args.self.now in
     let n = s.fits in
     let m = s.room in
-    let k : length c.close-gap.new.list ≡ s.count = search rules in
-    (omega arith, (array_long s.detours c.close-gap.new.list s.count (omega arith) k ∙ m, tt))
+    let k : length c.close_gap.new.list ≡ s.count = search rules in
+    record { fits = omega arith; room = array_long s.detours c.close_gap.new.list s.count (omega arith) k ∙ m }

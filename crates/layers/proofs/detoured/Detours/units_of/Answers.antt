@@ -4,8 +4,8 @@ use Rattle.layers.specs.declared.detour.Detour.{Detour}
 use Rattle.layers.proofs.Standing.{found_units, none_units}
 use Rattle.layers.proofs.detoured.Detours.units_of.Goals as goal
 
-pub offset-bounds-self-at : goal.offset-bounds-self-at
-offset-bounds-self-at g c =
+pub offset_bounds-self-at : goal.offset_bounds-self-at
+offset_bounds-self-at g c =
     let s = c.args.self.now in
     let f = c.in-Some.ensures in
     let w = f.within in

@@ -18,4 +18,4 @@ returns c =
     let n = v.ok.0 in
     let l : c.args.arc < length (vec_items v) = omega arith in
     let e : c.index.result.now ≡ get_or (vec_items v) c.args.arc 0 = get_or_read (vec_items v) c.args.arc c.index.result.now l c.index.ensures 0 in
-    mapped_told c.longer.result ∙ ap (option_map height_of) (c.longer.ensures ∙ ap₂ longer e c.one-more.ensures ∙ sym (carried_there (vec_items v) c.args.arc (told c.args.reading) l)) ∙ sym (by_heights_at (carried (vec_items v) c.args.arc) (told c.args.reading) c.args.reading.few)
+    mapped_told c.longer.result ∙ ap (option_map height_of) (c.longer.ensures ∙ ap₂ longer e c.one_more.ensures ∙ sym (carried_there (vec_items v) c.args.arc (told c.args.reading) l)) ∙ sym (by_heights_at (carried (vec_items v) c.args.arc) (told c.args.reading) c.args.reading.few)

@@ -8,41 +8,41 @@ use Rattle.length.specs.Held.{table_lists}
 use Rattle.length.specs.Measured.{table_arcs, table_metres, table_sites}
 use Rattle.length.proofs.tables.LengthTables.check.Goals as goal
 
-pub returns-in-err-check-arcs : goal.returns-in-err-check-arcs
-returns-in-err-check-arcs c =
-    let p = err_from_is_err_and c.from-residual.result c.from-residual.ensures.1 in
+pub returns-in_err-check_arcs : goal.returns-in_err-check_arcs
+returns-in_err-check_arcs c =
+    let p = err_from_is_err_and c.from_residual.result c.from_residual.ensures.1 in
     let s = c.args.self.now in
-    let given = rw (c.as-slice.ensures.value, c.as-slice-2.ensures.value) at c.in-err-check-arcs.ensures in
-    rw (p.1, p.2) (sym (table_arcs (table_lists s) (street_refusal c.in-err-check-arcs.field-0.0) (sym given)))
+    let given = rw (c.as_slice.ensures.value, c.as_slice-2.ensures.value) at c.in_err-check_arcs.ensures in
+    rw (p.1, p.2) (sym (table_arcs (table_lists s) (street_refusal c.in_err-check_arcs.field-0.0) (sym given)))
 
-pub returns-then-not-metres-fit : goal.returns-then-not-metres-fit
-returns-then-not-metres-fit c =
+pub returns-then-not-metres_fit : goal.returns-then-not-metres_fit
+returns-then-not-metres_fit c =
     let s = c.args.self.now in
-    let arcs = sym (rw (c.as-slice.ensures.value, c.as-slice-2.ensures.value) at c.in-ok-check-arcs.ensures) in
-    let metres = sym (rw (c.len.ensures, s.heads.ok.0, c.as-slice-3.ensures.value) at c.if-not-metres-fit.ensures) in
+    let arcs = sym (rw (c.as_slice.ensures.value, c.as_slice-2.ensures.value) at c.in_ok-check_arcs.ensures) in
+    let metres = sym (rw (c.len.ensures, s.heads.ok.0, c.as_slice-3.ensures.value) at c.if-not-metres_fit.ensures) in
     sym (table_metres (table_lists s) arcs metres)
 
-pub overflow-sub-len : goal.overflow-sub-len
-overflow-sub-len c =
+pub overflow_sub-len : goal.overflow_sub-len
+overflow_sub-len c =
     let s = c.args.self.now in
-    let arcs = sym (rw (c.as-slice.ensures.value, c.as-slice-2.ensures.value) at c.in-ok-check-arcs.ensures) in
+    let arcs = sym (rw (c.as_slice.ensures.value, c.as_slice-2.ensures.value) at c.in_ok-check_arcs.ensures) in
     let k = arcs_say (vec_items s.starts) (vec_items s.heads) (none_is (arcs_refusal (vec_items s.starts) (vec_items s.heads)) arcs) in
     let e = s.starts.ok.0 in
     omega arith
 
-pub returns-in-err-check-sites : goal.returns-in-err-check-sites
-returns-in-err-check-sites c =
-    let p = err_from_is_err_and c.from-residual-in-err-check-sites.result c.from-residual-in-err-check-sites.ensures.1 in
+pub returns-in_err-check_sites : goal.returns-in_err-check_sites
+returns-in_err-check_sites c =
+    let p = err_from_is_err_and c.from_residual-in_err-check_sites.result c.from_residual-in_err-check_sites.ensures.1 in
     let s = c.args.self.now in
-    let arcs = sym (rw (c.as-slice.ensures.value, c.as-slice-2.ensures.value) at c.in-ok-check-arcs.ensures) in
-    let metres = sym (rw (c.len.ensures, s.heads.ok.0, c.as-slice-3.ensures.value) at c.if-not-metres-fit.ensures) in
-    let sites = sym (rw (c.len-2.ensures, s.starts.ok.0, c.as-slice-4.ensures.value) at c.in-err-check-sites.ensures) in
+    let arcs = sym (rw (c.as_slice.ensures.value, c.as_slice-2.ensures.value) at c.in_ok-check_arcs.ensures) in
+    let metres = sym (rw (c.len.ensures, s.heads.ok.0, c.as_slice-3.ensures.value) at c.if-not-metres_fit.ensures) in
+    let sites = sym (rw (c.len-2.ensures, s.starts.ok.0, c.as_slice-4.ensures.value) at c.in_err-check_sites.ensures) in
     rw (p.1, p.2) (sym (table_sites (table_lists s) arcs metres ∙ sites))
 
 pub returns : goal.returns
 returns c =
     let s = c.args.self.now in
-    let arcs = sym (rw (c.as-slice.ensures.value, c.as-slice-2.ensures.value) at c.in-ok-check-arcs.ensures) in
-    let metres = sym (rw (c.len.ensures, s.heads.ok.0, c.as-slice-3.ensures.value) at c.if-not-metres-fit.ensures) in
-    let sites = sym (rw (c.len-2.ensures, s.starts.ok.0, c.as-slice-4.ensures.value) at c.in-ok-check-sites.ensures) in
+    let arcs = sym (rw (c.as_slice.ensures.value, c.as_slice-2.ensures.value) at c.in_ok-check_arcs.ensures) in
+    let metres = sym (rw (c.len.ensures, s.heads.ok.0, c.as_slice-3.ensures.value) at c.if-not-metres_fit.ensures) in
+    let sites = sym (rw (c.len-2.ensures, s.starts.ok.0, c.as_slice-4.ensures.value) at c.in_ok-check_sites.ensures) in
     sym (table_sites (table_lists s) arcs metres ∙ sites)

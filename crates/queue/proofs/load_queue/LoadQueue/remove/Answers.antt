@@ -10,7 +10,7 @@ pub drop_out-requires : goal.drop_out-requires
 drop_out-requires g c = load_whole c.args.self.now
 
 pub invariant_of-self : goal.invariant_of-self
-invariant_of-self g c = (∣ c.drop_out.ensures.whole ∣₁, tt)
+invariant_of-self g c = record { whole = ∣ c.drop_out.ensures.whole ∣₁ }
 
 pub returns : goal.returns
 unfolding load_capacity load_waiting

@@ -11,7 +11,7 @@ unfolding load_capacity
 put-requires g c = record { whole = load_whole c.args.self.now; fits = subst (λ n. c.args.entry.key.junction < n) c.capacity.ensures c.if-entry-capacity.true }
 
 pub invariant_of-self : goal.invariant_of-self
-invariant_of-self g c = (∣ c.put.ensures.whole ∣₁, tt)
+invariant_of-self g c = record { whole = ∣ c.put.ensures.whole ∣₁ }
 
 pub returns-then-entry-capacity : goal.returns-then-entry-capacity
 unfolding load_capacity load_waiting

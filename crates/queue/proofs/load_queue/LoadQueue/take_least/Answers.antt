@@ -10,7 +10,7 @@ pub take-requires : goal.take-requires
 take-requires g c = load_whole c.args.self.now
 
 pub invariant_of-self : goal.invariant_of-self
-invariant_of-self g c = (∣ c.take.ensures.whole ∣₁, tt)
+invariant_of-self g c = record { whole = ∣ c.take.ensures.whole ∣₁ }
 
 pub returns : goal.returns
 unfolding load_capacity load_waiting

@@ -5,7 +5,7 @@ use Rattle.queue.proofs.Changing.{none_sound, none_waits}
 use Rattle.queue.proofs.queue.Queue.new.Goals as goal
 
 pub invariant_of-result : goal.invariant_of-result
-invariant_of-result c = (∣ none_sound key_handle key_before c.args.slots.now ∣₁, tt)
+invariant_of-result c = record { whole = ∣ none_sound key_handle key_before c.args.slots.now ∣₁ }
 
 pub returns : goal.returns
 unfolding capacity waiting

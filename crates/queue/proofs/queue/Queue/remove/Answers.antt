@@ -10,7 +10,7 @@ pub drop_out-requires : goal.drop_out-requires
 drop_out-requires c = whole_of c.args.self.now
 
 pub invariant_of-self : goal.invariant_of-self
-invariant_of-self c = (∣ c.drop_out.ensures.whole ∣₁, tt)
+invariant_of-self c = record { whole = ∣ c.drop_out.ensures.whole ∣₁ }
 
 pub returns : goal.returns
 unfolding capacity waiting

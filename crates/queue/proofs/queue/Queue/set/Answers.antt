@@ -11,7 +11,7 @@ unfolding capacity
 put-requires c = record { whole = whole_of c.args.self.now; fits = subst (λ n. c.args.key.junction < n) c.capacity.ensures c.if-key-capacity.true }
 
 pub invariant_of-self : goal.invariant_of-self
-invariant_of-self c = (∣ c.put.ensures.whole ∣₁, tt)
+invariant_of-self c = record { whole = ∣ c.put.ensures.whole ∣₁ }
 
 pub returns-then-key-capacity : goal.returns-then-key-capacity
 unfolding capacity waiting

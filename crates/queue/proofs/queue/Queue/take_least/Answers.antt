@@ -10,7 +10,7 @@ pub take-requires : goal.take-requires
 take-requires c = whole_of c.args.self.now
 
 pub invariant_of-self : goal.invariant_of-self
-invariant_of-self c = (∣ c.take.ensures.whole ∣₁, tt)
+invariant_of-self c = record { whole = ∣ c.take.ensures.whole ∣₁ }
 
 pub returns : goal.returns
 unfolding capacity waiting
