@@ -27,9 +27,9 @@ pub(crate) fn follow<N: Network>(
     ways: &[u32],
     chain: &mut [u32],
 ) -> Option<usize>
-    requires to_bound { to < (N.Network.roads network.now).junctions }
-    requires network_in_bounds { (N.Network.roads network.now).junctions ≤ length ways.now }
-    requires chain_len { length chain.old ≡ (N.Network.roads network.now).junctions - 1 }
+    requires there { to < (N.Network.roads network.now).junctions }
+    requires long { (N.Network.roads network.now).junctions ≤ length ways.now }
+    requires room { length chain.old ≡ (N.Network.roads network.now).junctions - 1 }
     ensures within { IfSome result (λ first. first ≤ length chain.new) }
     ensures arcs { option_map (λ first. drop first chain.new) result ≡ back (N.Network.roads network.now) (way_in ways.now) from ((N.Network.roads network.now).junctions - 1) to }
 {

@@ -10,11 +10,11 @@ returns-then-from-junctions g c =
     let t = tracing c.args.from c.args.number c.args.to c.args.ways c.args.arcs in
     λ way. no_junction m way t (⊎_elim (λ l. inl (omega arith)) (λ l. inr (omega arith)) c.then-from-junctions.either)
 
-pub returns-in-default : goal.returns-in-default
-returns-in-default g c =
+pub returns-in_default : goal.returns-in_default
+returns-in_default g c =
     let m = g.N.Network.roads c.args.network.now in
     let t = tracing c.args.from c.args.number c.args.to c.args.ways c.args.arcs in
-    λ way. no_start m way t (omega arith) (omega arith) (sym c.in-default.ensures)
+    λ way. no_start m way t (omega arith) (omega arith) (sym c.in_default.ensures)
 
 pub returns-then-ways-junctions : goal.returns-then-ways-junctions
 returns-then-ways-junctions g c =

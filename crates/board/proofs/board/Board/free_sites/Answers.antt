@@ -16,8 +16,8 @@ loop-site-preserved c =
     let is = free_is b n c.loop-site-test.true in
     let few = b.few in
     elim c.if-table-at.branch [
-      | then-table-at w ↦ λ s. ap (λ x. has x s) w.free_is ∙ with_it free n (has c.loop-site.free) c.loop-site.invariant (is ∙ lt-ltb (get_or b.table.out n 0) (get_or b.table.bays n 0) w.if-table-at.true) (omega arith) (has w.insert.new.self) w.insert.ensures s
-      | else-table-at w ↦ λ s. ap (λ x. has x s) w.free_is ∙ without_it free n (has c.loop-site.free) c.loop-site.invariant (is ∙ le-ltb (get_or b.table.out n 0) (get_or b.table.bays n 0) w.if-table-at.false) s
+      | then-table-at w ↦ λ s. ap (λ x. has x s) w.free-is ∙ with_it free n (has c.loop-site.free) c.loop-site.invariant (is ∙ lt-ltb (get_or b.table.out n 0) (get_or b.table.bays n 0) w.if-table-at.true) (omega arith) (has w.insert.new.self) w.insert.ensures s
+      | else-table-at w ↦ λ s. ap (λ x. has x s) w.free-is ∙ without_it free n (has c.loop-site.free) c.loop-site.invariant (is ∙ le-ltb (get_or b.table.out n 0) (get_or b.table.bays n 0) w.if-table-at.false) s
     ]
 
 pub returns : goal.returns

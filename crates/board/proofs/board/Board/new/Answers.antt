@@ -5,22 +5,22 @@ use Rattle.board.proofs.Fronts.{zeros_at}
 use Rattle.board.proofs.Copying.{too_many, too_large, within_limits, copied_more, first_made, made_stands}
 use Rattle.board.proofs.board.Board.new.Goals as goal
 
-pub returns-then-bays-gt-MOST-SITES : goal.returns-then-bays-gt-MOST-SITES
-returns-then-bays-gt-MOST-SITES c = record { refusal = sym (too_many c.args.bays.now (omega arith)); table = tt; throughout = tt }
+pub returns-then-bays-gt-MOST_SITES : goal.returns-then-bays-gt-MOST_SITES
+returns-then-bays-gt-MOST_SITES c = record { refusal = sym (too_many c.args.bays.now (omega arith)); table = tt; throughout = tt }
 
 pub loop-site-init : goal.loop-site-init
 loop-site-init c = (omega arith, (refl, refl, λ s. (let e = zeros_at 64 s in omega arith), λ s l. absurd (omega arith)))
 
-pub returns-then-bays-site-gt-MOST-BAYS : goal.returns-then-bays-site-gt-MOST-BAYS
-returns-then-bays-site-gt-MOST-BAYS c = record { refusal = sym (too_large c.args.bays.now c.loop-site.site (omega arith) (omega arith)); table = tt; throughout = tt }
+pub returns-then-bays-site-gt-MOST_BAYS : goal.returns-then-bays-site-gt-MOST_BAYS
+returns-then-bays-site-gt-MOST_BAYS c = record { refusal = sym (too_large c.args.bays.now c.loop-site.site (omega arith) (omega arith)); table = tt; throughout = tt }
 
 pub loop-site-preserved : goal.loop-site-preserved
 loop-site-preserved c = let few = c.loop-site.invariant.0 in (few, copied_more c.args.bays.now c.loop-site.copy c.loop-site.site (omega arith) (omega arith) (omega arith) c.loop-site.invariant.1)
 
-pub invariant-of-result : goal.invariant-of-result
-invariant-of-result c =
+pub invariant_of-result : goal.invariant_of-result
+invariant_of-result c =
     let inv = c.loop-site.invariant in
-    (inv.0, ((inv.1.0, refl), (inv.1.2, (λ s. (let e = zeros_at 64 s in omega arith), tt))))
+    record { few = inv.0; room = (inv.1.0, refl); small = inv.1.2; within = λ s. (let e = zeros_at 64 s in omega arith) }
 
 pub returns : goal.returns
 unfolding board_table
