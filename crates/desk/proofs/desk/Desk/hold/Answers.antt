@@ -9,16 +9,16 @@ use Rattle.desk.specs.declared.kept.Kept.{Kept}
 use Rattle.desk.proofs.Holdings.{Tallies, tallies_more, granted_says}
 use Rattle.desk.proofs.desk.Desk.hold.Goals as goal
 
-pub invariant-of-self-in-Ok : goal.invariant-of-self-in-Ok
-invariant-of-self-in-Ok c =
+pub invariant_of-self-in-Ok : goal.invariant_of-self-in-Ok
+invariant_of-self-in-Ok c =
     let d = c.args.self.now in
     let t = board_table d.board in
     let x : Kept = record { name = d.next; hold = c.in-Ok.hold } in
     let says = granted_says (hold_refusal t c.args.site) _ _ t.number c.args.site c.in-Ok.ensures.answer in
     let table = c.in-Ok.ensures.table ∙ ap (λ o. one_more_out o t c.args.site) says.0 in
-    let items = c.push-reserved.ensures.items ∙ ap (λ ys. ys ++ x ∷ []) c.reserve.ensures.items in
-    let tallies = subst (λ u. Tallies u (vec_items c.push-reserved.new.self)) (sym table) (subst (Tallies (one_more_out None t c.args.site)) (sym items) (tallies_more t (vec_items d.holds) x c.args.site says.1 says.2 (d.numbered, d.counted))) in
-    (tallies.0, (tallies.1, tt))
+    let items = c.push_reserved.ensures.items ∙ ap (λ ys. ys ++ x ∷ []) c.reserve.ensures.items in
+    let tallies = subst (λ u. Tallies u (vec_items c.push_reserved.new.self)) (sym table) (subst (Tallies (one_more_out None t c.args.site)) (sym items) (tallies_more t (vec_items d.holds) x c.args.site says.1 says.2 (d.numbered, d.counted))) in
+    record { numbered = tallies.0; counted = tallies.1 }
 
 pub returns-in-Ok : goal.returns-in-Ok
 returns-in-Ok c =
@@ -27,7 +27,7 @@ returns-in-Ok c =
     let x : Kept = record { name = d.next; hold = c.in-Ok.hold } in
     let says = granted_says (hold_refusal t c.args.site) _ _ t.number c.args.site c.in-Ok.ensures.answer in
     let table = c.in-Ok.ensures.table ∙ ap (λ o. one_more_out o t c.args.site) says.0 in
-    let items = c.push-reserved.ensures.items ∙ ap (λ ys. ys ++ x ∷ []) c.reserve.ensures.items in
+    let items = c.push_reserved.ensures.items ∙ ap (λ ys. ys ++ x ∷ []) c.reserve.ensures.items in
     let kept = ap named_sites items ∙ map_push named (vec_items d.holds) x ∙ ap (λ s. named_sites (vec_items d.holds) ++ (d.next, s) ∷ []) says.2 in
     record {
       desk = (says.0, refl, λ i. record { table = table i; kept = kept i; next = d.next + 1 });
