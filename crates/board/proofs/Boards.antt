@@ -1,8 +1,6 @@
 -- What the table of a board says, by the arrays that it keeps, and what a call leaves. Assumes nothing.
-use Rattle.std.proofs.Common.{◌≡◌, ℕ, suc, ◌+◌, ◌-◌, ◌<◌, ◌≤◌, Bool, true, false, ◌&&◌, eqb, ltb, ◌⊎◌, List, ◌∷◌, length, get_or, take, set, Some, None, Option, sym, refl, ap, ◌∙◌, subst, ⊎_elim, arith, length-take-le}
-use Rattle.std.specs.Option.{option_or}
-use Rattle.std.proofs.lemmas.Bool.{and_from, and_left, and_right, lt-ltb, le-ltb, eq-eqb, ne_eqb}
-use Rattle.network.specs.First.{unless}
+use Rattle.std.proofs.Common.{◌≡◌, ℕ, ◌<◌, ◌≤◌, true, false, ◌&&◌, eqb, ltb, List, ◌∷◌, length, get_or, take, set, Some, None, Option, sym, ap, ◌∙◌, subst, arith, length-take-le}
+use Rattle.std.proofs.lemmas.Bool.{lt-ltb, le-ltb}
 use Rattle.network.specs.Refused.{refusal}
 use Rattle.network.specs.declared.refusals.Places.TheVariants.{Call as the_call}
 use Rattle.network.specs.declared.refusals.Refusal.{Refusal}
@@ -10,7 +8,7 @@ use Rattle.soonest.specs.Stages.{upd}
 use Rattle.board.specs.Calls.{Call, holding, handing_back, First}
 use Rattle.board.specs.Held.{board_table}
 use Rattle.board.specs.Promise.{Answer, Stands, Right, hold_answer, back_answer}
-use Rattle.board.specs.Tables.{Table, has_free, sites_of, with_out, hold_refusal, one_more_out, back_refusal, one_less_out}
+use Rattle.board.specs.Tables.{Table, has_free, sites_of, hold_refusal, one_more_out, back_refusal, one_less_out}
 use Rattle.board.specs.declared.board.Board.{Board}
 use Rattle.board.proofs.Counting.{hold_right, hold_stands, back_right, back_stands}
 use Rattle.board.proofs.Fronts.{front_in, front_past, front_set}

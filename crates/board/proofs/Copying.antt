@@ -1,8 +1,8 @@
 -- Which bays make a board, and the copy that it keeps. Assumes nothing.
-use Rattle.std.proofs.Common.{◌≡◌, ℕ, ◌+◌, ◌<◌, ◌≤◌, Bool, true, false, ◌&&◌, leb, List, [], ◌∷◌, ◌++◌, length, get_or, take, set, replicate, Some, None, sym, refl, ap, ◌∙◌, subst, ⊎_elim, arith, length-set, get_or-set_other, get_or-set_same}
+use Rattle.std.proofs.Common.{◌≡◌, ℕ, ◌+◌, ◌<◌, ◌≤◌, Bool, ◌&&◌, leb, List, [], ◌∷◌, ◌++◌, length, get_or, take, set, replicate, Some, None, sym, ap, ◌∙◌, subst, ⊎_elim, arith, length-set, get_or-set_other, get_or-set_same}
 use Rattle.std.proofs.lemmas.List.{take_more, take_more_set, take_all}
 use Rattle.std.proofs.lemmas.Bool.{and_from, and_left, and_right, cases_eq, le-leb, lt-leb, leb-true}
-use Rattle.network.specs.First.{unless, every}
+use Rattle.network.specs.First.{every}
 use Rattle.network.specs.Refused.{refusal}
 use Rattle.network.specs.declared.refusals.Places.TheVariants.{Call as the_call}
 use Rattle.network.proofs.First.{unless_true, unless_false, every_below, every_from}

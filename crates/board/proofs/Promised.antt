@@ -1,7 +1,6 @@
 -- The promise over every list of calls, from what is proved of one list of soonest sites. Assumes nothing.
-use Rattle.std.proofs.Common.{◌≡◌, ℕ, ◌<◌, Bool, true, false, ◌&&◌, eqb, ltb, leb, List, [], ◌∷◌, length, is_some, Some, None, Option, unwrap_or, sym, refl, ap, ◌∙◌, subst}
+use Rattle.std.proofs.Common.{◌≡◌, ℕ, ◌<◌, Bool, true, false, ltb, List, [], ◌∷◌, length, is_some, Some, None, Option, unwrap_or, refl, ap, subst}
 use mathlib.Core.Path.{fun_ext}
-use Rattle.std.specs.Option.{option_or}
 use Rattle.std.proofs.lemmas.Bool.{ltb-true, true≢false, false≢true}
 use Rattle.network.specs.First.{unless}
 use Rattle.network.specs.Layers.{Layer}
@@ -13,9 +12,9 @@ use Rattle.network.proofs.Layering.{pile_keeps}
 use Rattle.soonest.specs.Asking.{Asking, ask_refusal, asked, unless_refused}
 use Rattle.soonest.specs.Claims.{Soonest}
 use Rattle.soonest.specs.Guidance.{Guidance, under, Sound}
-use Rattle.soonest.specs.Stages.{Stage, last_stage}
+use Rattle.soonest.specs.Stages.{last_stage}
 use Rattle.board.specs.Calls.{Call, asking, holding, handing_back, First, tally, free_at}
-use Rattle.board.specs.Promise.{Right, SoonestOr, ask_answer, hold_answer, back_answer, answer_on, after_call, board_after, SoundCall, Stands, alters, Promised, SoonestAndFreeBaysOverEveryListOfCalls}
+use Rattle.board.specs.Promise.{Right, SoonestOr, ask_answer, hold_answer, back_answer, answer_on, board_after, SoundCall, Stands, alters, SoonestAndFreeBaysOverEveryListOfCalls}
 use Rattle.board.specs.Tables.{Table, has_free, sites_of, hold_refusal, one_more_out, back_refusal, one_less_out}
 use Rattle.board.proofs.Counting.{first_stands, stands_free, hold_right, hold_stands, back_right, back_stands}
 

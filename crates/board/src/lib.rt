@@ -1,4 +1,6 @@
 // A board of bays, and the holds on them.
+#![tactic(auto)]
+
 mod bays;
 mod board;
 mod faults;

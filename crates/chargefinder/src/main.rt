@@ -1,4 +1,6 @@
 // The charge finder: reads a depot, then answers one command a line.
+#![tactic(auto)]
+
 mod commands;
 mod layered;
 mod moves;

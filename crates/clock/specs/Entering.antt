@@ -1,8 +1,8 @@
 -- Entering an arc: the pair of points around a second, and what it gives. Assumes nothing.
-use Rattle.std.specs.Prelude.{◌≡◌, ℕ, zero, suc, ◌+◌, ◌-◌, ◌<◌, ◌≤◌, max, List, length, take, drop, Some, None, Option, nat_le, slice_index, slice_index_or, slice_range, refl}
-use Rattle.std.proofs.Common.{sym, ap₂, subst, subst₂, ◌∙◌, ⊎_elim, add-one, arith, length-drop, get_or-take, get_or-drop, length-take-le}
+use Rattle.std.specs.Prelude.{◌≡◌, ℕ, zero, suc, ◌+◌, ◌-◌, ◌<◌, ◌≤◌, max, List, length, take, drop, Some, nat_le, slice_index, slice_index_or, slice_range, refl}
+use Rattle.std.proofs.Common.{sym, ap₂, subst, subst₂, ◌∙◌, ⊎_elim, arith, length-drop, get_or-take, get_or-drop, length-take-le}
 use Rattle.std.proofs.lemmas.Bool.{cases_lt, cases_eq, le-leb, lt-leb}
-use Rattle.network.specs.First.{first_of, provided}
+use Rattle.network.specs.First.{provided}
 use Rattle.network.specs.Lists.{LowerBound}
 use Rattle.network.proofs.First.{first_at, provided_true, provided_false, climb}
 use Rattle.network.proofs.Following.{some_same}

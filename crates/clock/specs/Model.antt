@@ -1,5 +1,5 @@
 -- Clock roads as a network: a reading is 0 to 172,800 seconds and its own height. Assumes nothing.
-use Rattle.std.specs.Prelude.{ℕ, ◌+◌, ◌-◌, Bool, cond, ◌&&◌, leb, length, None, Option, nat_le, nat_lt, slice_index}
+use Rattle.std.specs.Prelude.{ℕ, ◌+◌, ◌-◌, cond, ◌&&◌, leb, length, None, Option, nat_le, nat_lt, slice_index}
 use Rattle.network.specs.Estimates.{Estimate, reading_itself}
 use Rattle.network.specs.First.{provided}
 use Rattle.network.specs.Lists.{on_streets}

@@ -1,4 +1,6 @@
 // Clock roads: how long a street takes depends on when it is entered.
+#![tactic(auto)]
+
 mod answers;
 mod carrying;
 mod examining;

@@ -1,4 +1,6 @@
 // What the program answers: which command a line asks for, and what each command computes.
+#![tactic(auto)]
+
 mod drives;
 mod faults;
 mod kinds;

@@ -1,4 +1,6 @@
 // Opens one depot file after another, and prints what each is answered as clock roads and as length roads.
+#![tactic(auto)]
+
 use console::{clock_tables, length_tables};
 use depot::{Depot, read_depot};
 use network::Fault;

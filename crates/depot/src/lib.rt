@@ -1,4 +1,6 @@
 // Reads the text of a depot file, and of a command line.
+#![tactic(auto)]
+
 mod cut;
 mod depots;
 mod entry;

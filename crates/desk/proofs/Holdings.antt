@@ -1,11 +1,11 @@
 -- One hold more or fewer among those that are kept. Assumes nothing.
-use Rattle.std.proofs.Common.{◌≡◌, ℕ, zero, suc, ◌+◌, ◌-◌, ◌<◌, ◌≤◌, Bool, true, false, cond, eqb, ltb, List, [], ◌∷◌, ◌++◌, map, length, get_or, take, drop, set, Some, None, Option, sym, refl, ap, ◌∙◌, subst, ⊎_elim, arith, length-take, get_or-take}
+use Rattle.std.proofs.Common.{◌≡◌, ℕ, zero, suc, ◌+◌, ◌-◌, ◌<◌, cond, eqb, List, [], ◌∷◌, ◌++◌, length, get_or, take, drop, set, Some, None, Option, sym, refl, ap, ◌∙◌, subst, ⊎_elim, arith, length-take, get_or-take}
 use Rattle.std.proofs.lemmas.List.{set_split, set-get_or}
 use Rattle.std.proofs.lemmas.Bool.{cond-true, cond-false, cases_eq, cases_lt, lt-ltb, eq-eqb, ne_eqb}
 use Rattle.network.specs.declared.refusals.Refusal.{Refusal}
 use Rattle.soonest.specs.Stages.{upd}
 use Rattle.board.specs.Held.{board_table, hold_bears}
-use Rattle.board.specs.Promise.{Answer, hold_granted, call_refused, hold_answer}
+use Rattle.board.specs.Promise.{hold_granted, call_refused, hold_answer}
 use Rattle.board.specs.Tables.{Table, sites_of, back_refusal, one_more_out, one_less_out}
 use Rattle.board.specs.declared.board.Board.{Board}
 use Rattle.board.proofs.Boards.{out_past, may_hand_back}

@@ -3,7 +3,7 @@ use Rattle.std.specs.Prelude.{◌≡◌, ℕ, ◌+◌, ◌-◌, ◌^◌, List, [
 use Rattle.board.specs.Faults.{hold_fault}
 use Rattle.board.specs.Held.{board_table}
 use Rattle.board.specs.Tables.{Table, first_state, hold_refusal, one_more_out, one_less_out}
-use Rattle.desk.specs.Named.{named_sites, site_under, without}
+use Rattle.desk.specs.Named.{named_sites, without}
 use Rattle.desk.specs.declared.desk.Desk.{Desk}
 use Rattle.desk.specs.declared.faults.DeskFault.{DeskFault}
 use Rattle.desk.specs.declared.faults.DeskFault.TheVariants.{Refused, NoNumber, NoMemory}

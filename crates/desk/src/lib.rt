@@ -1,4 +1,6 @@
 // Holds that are kept beside their board, each under a number of its own.
+#![tactic(auto)]
+
 mod desk;
 mod faults;
 mod keeping;

@@ -1,13 +1,12 @@
 -- Which answer a change of a layer gets, and the list after it. Assumes nothing.
-use Rattle.std.proofs.Common.{◌≡◌, ℕ, ◌+◌, ◌-◌, ◌<◌, ◌≤◌, Bool, true, false, ltb, List, [], ◌∷◌, ◌++◌, length, get_or, take, drop, Some, None, sym, refl, ap, ◌∙◌, subst, ⊎_elim, arith, length-append, length-drop, length-take-le, get_or-drop, get_or-take}
+use Rattle.std.proofs.Common.{◌≡◌, ℕ, ◌+◌, ◌-◌, ◌<◌, ◌≤◌, Bool, true, false, List, ◌++◌, length, get_or, take, drop, Some, None, sym, ap, ◌∙◌, ⊎_elim, arith, length-append, length-drop, length-take-le, get_or-drop, get_or-take}
 use lib.Seq.{take-append-le}
 use Rattle.std.proofs.lemmas.List.{same_lists, get_or_append_left, get_or-append_right}
 use Rattle.std.proofs.lemmas.Bool.{lt-ltb, le-ltb, cases_lt}
 use Rattle.network.specs.Refused.{refusal}
 use Rattle.network.specs.declared.refusals.Places.TheVariants.{Call}
 use Rattle.network.specs.Layers.{stands}
-use Rattle.layers.specs.Changes.{adding, lifting, without, Found}
-use Rattle.layers.proofs.Standing.{found_stands, found_without}
+use Rattle.layers.specs.Changes.{adding, lifting}
 
 module _ {X : Type 0} (on : X → ℕ) (arcs most : ℕ) (xs : List X) (a : ℕ) (there : a < arcs) where
   pub add_twice : (u : Bool) → u ≡ true → stands on xs a ≡ true → adding on arcs most u xs a ≡ Some (refusal 36 Call)

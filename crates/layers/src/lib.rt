@@ -1,4 +1,6 @@
 // Layers over any guide: closures, whose arcs carry nothing, and detours, whose arcs take longer.
+#![tactic(auto)]
+
 mod bounded;
 mod closed;
 mod closed_roads;

@@ -1,6 +1,6 @@
 -- Examined length tables keep the laws of a network. Assumes nothing.
-use Rattle.std.specs.Prelude.{◌≡◌, ℕ, ◌+◌, ◌-◌, ◌*◌, ◌/◌, ◌%◌, ◌<◌, ◌≤◌, min, length, Some, vec_items, nat_le, slice_index}
-use Rattle.std.proofs.Common.{sym, ap, ◌∙◌, arith}
+use Rattle.std.specs.Prelude.{◌+◌, ◌-◌, ◌*◌, ◌/◌, ◌%◌, min, length, vec_items, nat_le, slice_index}
+use Rattle.std.proofs.Common.{arith}
 use Rattle.std.proofs.lemmas.Bool.{leb-true, le-leb}
 use Rattle.network.specs.Estimates.{Admissible}
 use Rattle.network.specs.Laws.{WellFormed, Lawful}
@@ -9,7 +9,7 @@ use Rattle.network.proofs.Refusing.{Arcs, Sited, streets_arcs, streets_sites}
 use Rattle.network.proofs.Tails.{tail_says}
 use Rattle.length.specs.Held.{road_lists}
 use Rattle.length.specs.Model.{length_roads, length_estimate}
-use Rattle.length.specs.Readings.{height_of, longer, carried, by_heights}
+use Rattle.length.specs.Readings.{height_of}
 use Rattle.length.specs.Tables.{Tables}
 use Rattle.length.specs.declared.roads.LengthRoads.{LengthRoads}
 use Rattle.length.specs.Heights.{longer_says, longer_from, carried_says, carried_from, carried_nowhere}

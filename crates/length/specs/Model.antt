@@ -1,5 +1,5 @@
 -- Length roads as a network. Assumes nothing.
-use Rattle.std.specs.Prelude.{ℕ, ◌/◌, leb, nat_le}
+use Rattle.std.specs.Prelude.{◌/◌, leb, nat_le}
 use Rattle.network.specs.Estimates.{Estimate, reading_itself}
 use Rattle.network.specs.First.{provided}
 use Rattle.network.specs.Lists.{on_streets}

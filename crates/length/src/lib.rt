@@ -1,4 +1,6 @@
 // Length roads: how far a van has come, in metres and arcs passed.
+#![tactic(auto)]
+
 mod answers;
 mod examining;
 mod faults;

@@ -1,12 +1,12 @@
 -- Closures and detours keep the rules of what they stand over. Assumes nothing.
-use Rattle.std.proofs.Common.{◌≡◌, ℕ, ◌<◌, ◌≤◌, Bool, true, false, cond, List, [], ◌∷◌, Some, None, Option, sym, refl, ap, ◌∙◌, subst, arith}
+use Rattle.std.proofs.Common.{◌≡◌, ℕ, ◌<◌, ◌≤◌, Bool, true, false, cond, List, [], ◌∷◌, Some, None, Option, sym, refl, ap, ◌∙◌, arith}
 use Rattle.network.specs.Estimates.{Estimate, Admissible, Keeps}
 use Rattle.network.specs.First.{onward}
 use Rattle.network.specs.Laws.{WellFormed, Lawful}
 use Rattle.network.specs.Layers.{carrying, closed, detoured, stands, units_of, lengthened, Layer, closures, detours, layered, pile}
 use Rattle.network.specs.Model.{Roads}
 use Rattle.network.specs.Piles.{PilesKeepTheRules}
-use Rattle.network.specs.Paths.{Chain, along, Path}
+use Rattle.network.specs.Paths.{Chain, along}
 use Rattle.network.proofs.First.{clash}
 use Rattle.network.proofs.Following.{onward_from, onward_at, some_same}
 

@@ -1,7 +1,7 @@
 -- An arc's tail, by where the arc stands among the arc starts. Assumes nothing.
-use Rattle.std.proofs.Common.{◌≡◌, ℕ, zero, suc, ◌+◌, ◌-◌, ◌<◌, ◌≤◌, Bool, true, false, ◌&&◌, eqb, ltb, leb, ◌⊎◌, List, length, get_or, Some, None, Option, unwrap_or, sym, refl, ap, ◌∙◌, subst, inl, inr, ⊎_elim, add-one, arith}
+use Rattle.std.proofs.Common.{◌≡◌, ℕ, zero, suc, ◌+◌, ◌-◌, ◌<◌, ◌≤◌, Bool, false, ◌&&◌, eqb, ltb, leb, List, length, get_or, Some, None, unwrap_or, sym, ap, subst, ⊎_elim, add-one, arith}
 use Rattle.std.proofs.lemmas.Bool.{cases_lt, lt-ltb, le-ltb, le-leb, lt-leb, eq-eqb, ne_eqb, and_from, and_left, and_right}
-use Rattle.network.specs.First.{first_of, provided}
+use Rattle.network.specs.First.{provided}
 use Rattle.network.specs.Lists.{tail_of, LowerBound}
 use Rattle.network.specs.Model.{leaving}
 use Rattle.network.proofs.First.{first_at, first_none, provided_true, provided_false, climb}

@@ -1,4 +1,6 @@
 // Roads of any kind: junctions joined by arcs, sites at junctions, and what a van's reading becomes along an arc.
+#![tactic(auto)]
+
 mod bounds;
 mod checks;
 mod lists;

@@ -1,4 +1,6 @@
 // A priority queue over a lent slice: of what waits, each under its handle, the least is taken first.
+#![tactic(auto)]
+
 mod calls;
 mod edits;
 mod entry;

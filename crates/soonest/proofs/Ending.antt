@@ -1,10 +1,10 @@
 -- An asking ends: every step lowers the potential, so the steps that it allows are enough. Assumes nothing.
-use Rattle.std.proofs.Common.{◌≡◌, ℕ, zero, suc, ◌+◌, ◌^◌, ◌<◌, ◌≤◌, Bool, true, false, ltb, ◌⊎◌, Some, None, Option, sym, refl, ap, ◌∙◌, subst, inl, inr, ⊎_elim, arith}
+use Rattle.std.proofs.Common.{◌≡◌, ℕ, zero, suc, ◌+◌, ◌^◌, ◌<◌, ◌≤◌, Bool, true, ◌⊎◌, Some, None, Option, sym, refl, ap, ◌∙◌, subst, inl, inr, ⊎_elim, arith}
 use Rattle.std.proofs.lemmas.Bool.{ltb-true}
 use Rattle.network.proofs.First.{clash}
 use Rattle.network.proofs.Following.{some_same}
 use Rattle.soonest.specs.Guidance.{Guidance, Sound}
-use Rattle.soonest.specs.Stages.{Stage, upd, below, begin, full, list_site, reach, taken, step, next, run, or_top, one_waits, sum_below, potential, finish}
+use Rattle.soonest.specs.Stages.{Stage, upd, below, begin, list_site, reach, taken, step, next, run, or_top, one_waits, sum_below, potential, finish}
 use Rattle.soonest.proofs.Least.{next_is}
 use Rattle.soonest.proofs.Sums.{sum_most, sum_change}
 use Rattle.soonest.proofs.Turns.{upd_same, upd_other, upd_says, step_keeps}

@@ -1,10 +1,10 @@
 -- The ways of an asking lead back to its start. Assumes nothing.
 use Rattle.std.proofs.Common.{◌≡◌, ℕ, zero, suc, ◌+◌, ◌-◌, ◌<◌, ◌≤◌, Bool, true, false, ◌&&◌, eqb, ltb, List, [], ◌∷◌, ◌++◌, Some, None, Option, sym, refl, ap, ◌∙◌, ⊎_elim, arith}
 use Rattle.std.specs.Option.{option_map}
-use Rattle.std.proofs.lemmas.Bool.{and_parts, and_from, cases_eq, cases_lt, ltb-true, lt-ltb, le-ltb, eq-eqb, ne_eqb}
+use Rattle.std.proofs.lemmas.Bool.{and_parts, and_from, cases_eq, cases_lt, ltb-true, lt-ltb, le-ltb, eq-eqb}
 use Rattle.network.specs.Laws.{WellFormed, Lawful}
 use Rattle.network.specs.Model.{Roads, arrival}
-use Rattle.network.specs.Paths.{Chain, along, Path}
+use Rattle.network.specs.Paths.{along, Path}
 use Rattle.network.proofs.Following.{onward_from, onward_at, some_same}
 use Rattle.soonest.proofs.Backs.{chain_on, back_start, back_on}
 use Rattle.soonest.specs.Ways.{back, leads_to, by_way as after_way}

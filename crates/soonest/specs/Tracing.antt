@@ -1,5 +1,5 @@
 -- What a tracing answers: a refusal, or the arcs from the start and what arrives. Assumes nothing.
-use Rattle.std.specs.Prelude.{ℕ, ◌-◌, Bool, ◌&&◌, List, [], is_some, Option, Result, nat_le, nat_lt}
+use Rattle.std.specs.Prelude.{ℕ, ◌-◌, ◌&&◌, List, [], is_some, Option, Result, nat_le, nat_lt}
 use Rattle.std.specs.Option.{option_or, unwrap_or}
 use Rattle.network.specs.First.{unless, onward}
 use Rattle.network.specs.Model.{Roads}

@@ -1,5 +1,5 @@
 -- The worked askings compute, and the built-in roads keep the rules. Assumes nothing.
-use Rattle.std.proofs.Common.{◌≡◌, false, is_some, None, refl}
+use Rattle.std.proofs.Common.{refl}
 use Rattle.clock.specs.ClockLaws.{clock_wellformed, clock_lawful, clock_admissible}
 use Rattle.clock.specs.Timed.{points_say}
 use Rattle.clock.specs.Arrivals.{entered}

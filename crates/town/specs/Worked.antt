@@ -1,5 +1,5 @@
 -- Worked examples, as theorems of the definitions. Assumes nothing.
-use Rattle.std.specs.Prelude.{◌≡◌, ℕ, List, [], ◌∷◌, Some, None}
+use Rattle.std.specs.Prelude.{◌≡◌, [], ◌∷◌, Some, None}
 use Rattle.clock.specs.Model.{clock_roads}
 use Rattle.clock.specs.Points.{table_refusal}
 use Rattle.console.specs.Kinds.{length_tables}

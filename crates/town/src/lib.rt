@@ -1,4 +1,6 @@
 // The depot that is built in, and the worked examples on it.
+#![tactic(auto)]
+
 ghost use Rattle.std.specs.Prelude.{◌≡◌, IfOk};
 ghost use Rattle.depot.specs.Reads.{seen};
 ghost use Rattle.town.specs.Askings.{WorkedAskings};

@@ -1,5 +1,5 @@
 -- Which refusal a tracing gets, and what it answers where it gets none. Assumes nothing.
-use Rattle.std.proofs.Common.{◌≡◌, ℕ, ◌-◌, ◌<◌, ◌≤◌, Bool, true, false, ◌&&◌, ltb, leb, ◌⊎◌, List, [], is_some, Some, None, Ok, Err, Option, Result, unwrap_or, refl, ap, ◌∙◌, ⊎_elim}
+use Rattle.std.proofs.Common.{◌≡◌, ℕ, ◌-◌, ◌<◌, ◌≤◌, Bool, true, false, ◌&&◌, ltb, leb, ◌⊎◌, List, [], is_some, Some, None, Err, Option, Result, unwrap_or, refl, ap, ◌∙◌, ⊎_elim}
 use Rattle.std.specs.Option.{option_or}
 use Rattle.std.proofs.lemmas.Bool.{and_from, and_left, and_right, lt-ltb, le-ltb, lt-leb, le-leb}
 use Rattle.network.specs.First.{unless, onward}

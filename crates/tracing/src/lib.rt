@@ -1,4 +1,6 @@
 // Following ways back to the start of a drive, and driving the arcs that they give.
+#![tactic(auto)]
+
 mod admission;
 mod drive;
 mod follow;

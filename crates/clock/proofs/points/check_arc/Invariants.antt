@@ -1,4 +1,4 @@
-use Rattle.std.proofs.Common.{◌≡◌, ◌+◌, ◌≤◌, length, get_or, None}
+use Rattle.std.proofs.Common.{◌≡◌, None}
 use Rattle.network.specs.First.{first_of}
 use Rattle.clock.specs.Timed.{place_refusal}
 use Rattle.clock.proofs.points.check_arc.Given as goal

@@ -1,4 +1,4 @@
-use Rattle.std.proofs.Common.{◌≡◌, ◌-◌, ◌<◌, false, ◌&&◌, ltb, get_or, Some, None, sym, refl, ap, ◌∙◌, subst, arith}
+use Rattle.std.proofs.Common.{◌≡◌, ◌-◌, ◌<◌, false, ◌&&◌, ltb, get_or, Some, None, sym, refl, ap, arith}
 use Rattle.std.proofs.lemmas.Bool.{and_left, and_right, lt-ltb, le-ltb, eq-eqb, ne_eqb}
 use Rattle.network.specs.Refused.{refusal}
 use Rattle.network.specs.declared.refusals.Places.TheVariants.{Call as the_call}

@@ -3,8 +3,6 @@ use Rattle.std.proofs.lemmas.Bool.{lt-ltb, le-ltb}
 use Rattle.network.specs.Refused.{refusal}
 use Rattle.network.specs.declared.refusals.Places.TheVariants.{Call as the_call}
 use Rattle.board.specs.Held.{board_table}
-use Rattle.board.specs.Promise.{hold_answer}
-use Rattle.board.specs.Tables.{with_out}
 use Rattle.board.proofs.Boards.{there, not_there, free_is, out_is, written, no_such_site, no_free_bay, may_hold, held_so}
 use Rattle.board.proofs.board.Board.hold.Goals as goal
 

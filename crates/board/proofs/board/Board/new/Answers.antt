@@ -1,5 +1,4 @@
-use Rattle.std.proofs.Common.{◌≡◌, ℕ, ◌<◌, ◌≤◌, length, get_or, replicate, sym, refl, ap, ◌∙◌, subst, arith, rules}
-use lib.ListN.{length-replicate}
+use Rattle.std.proofs.Common.{sym, refl, arith}
 use Rattle.board.specs.Held.{board_table}
 use Rattle.board.proofs.Fronts.{zeros_at}
 use Rattle.board.proofs.Copying.{too_many, too_large, within_limits, copied_more, first_made, made_stands}

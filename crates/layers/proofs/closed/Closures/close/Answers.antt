@@ -1,4 +1,4 @@
-use Rattle.std.proofs.Common.{◌≡◌, ◌<◌, sym, refl, arith, length-take, rules}
+use Rattle.std.proofs.Common.{◌<◌, sym, refl, arith, length-take, rules}
 use Rattle.layers.specs.Held.{closed_arcs}
 use Rattle.layers.proofs.Standing.{found_stands}
 use Rattle.layers.proofs.Changing.{add_twice, add_fine}

@@ -1,4 +1,4 @@
-use Rattle.std.proofs.Common.{◌≡◌, ◌<◌, ◌≤◌, length, sym, refl, ◌∙◌, arith, rules}
+use Rattle.std.proofs.Common.{◌<◌, sym, refl, ◌∙◌, rules}
 use Rattle.layers.specs.Held.{closed_arcs}
 use Rattle.layers.proofs.Standing.{found_stands, found_without}
 use Rattle.layers.proofs.Changing.{lift_fine, array_closed}

@@ -1,5 +1,4 @@
 use Rattle.std.proofs.Common.{cond, None, sym, ap}
-use Rattle.std.proofs.lemmas.Bool.{cond-true}
 use Rattle.layers.specs.Held.{closed_arcs}
 use Rattle.layers.proofs.Standing.{found_stands}
 use Rattle.layers.proofs.closed_roads.ClosuresNetwork.carry.Goals as goal

@@ -1,4 +1,4 @@
-use Rattle.std.proofs.Common.{◌≡◌, ◌<◌, ◌&&◌, leb, sym, refl, arith, length-take, rules}
+use Rattle.std.proofs.Common.{◌<◌, ◌&&◌, leb, sym, refl, arith, length-take, rules}
 use Rattle.std.proofs.lemmas.Bool.{and_from, le-leb}
 use Rattle.layers.specs.Held.{held_detours}
 use Rattle.layers.proofs.Standing.{found_stands}

@@ -1,4 +1,4 @@
-use Rattle.std.proofs.Common.{◌≡◌, ◌<◌, length, get_or, Some, sym, ap, ◌∙◌, arith, length-take, get_or-take, rules}
+use Rattle.std.proofs.Common.{Some, sym, ap, ◌∙◌, arith, length-take, get_or-take}
 use Rattle.layers.specs.Held.{held_detours}
 use Rattle.layers.specs.declared.detour.Detour.{Detour}
 use Rattle.layers.proofs.Standing.{found_units, none_units}

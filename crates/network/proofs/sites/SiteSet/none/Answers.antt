@@ -1,4 +1,4 @@
-use Rattle.std.proofs.Common.{◌≡◌, Bool, true, false, ◌&&◌, ltb, get_or, replicate, refl, ◌∙◌, ⊎_elim}
+use Rattle.std.proofs.Common.{false, ltb, get_or, replicate, ⊎_elim}
 use Rattle.std.proofs.lemmas.List.{get_or-replicate}
 use Rattle.std.proofs.lemmas.Bool.{and_left, and_right, cases_lt, le-ltb}
 use Rattle.network.proofs.sites.SiteSet.none.Goals as goal
