@@ -1,9 +1,9 @@
 -- The tables of each kind of roads, among the lists of a depot. Assumes nothing.
-use Rattle.clock.specs.Tables as clock
-use Rattle.length.specs.Tables as length
+use Rattle.clock.specs.Tables as clocks
+use Rattle.length.specs.Tables as lengths
 use Rattle.depot.specs.Depots.{Lists}
 
-abbrev pub clock_tables : Lists → clock.Tables
+abbrev pub clock_tables : Lists → clocks.Tables
 clock_tables d = record {
   starts = d.arc_starts;
   heads = d.heads;
@@ -13,7 +13,7 @@ clock_tables d = record {
   sites = d.sites;
 }
 
-abbrev pub length_tables : Lists → length.Tables
+abbrev pub length_tables : Lists → lengths.Tables
 length_tables d = record {
   starts = d.arc_starts;
   heads = d.heads;
