@@ -3,33 +3,33 @@
 # apart, forges one or uses one twice. It reads the sources as they stand; nothing is proved here.
 set -eu
 root=$(cd "$(dirname "$0")/../.." && pwd)
-kit=$(dirname "$(dirname "$(rt doc)")")
 work=$(mktemp -d)
 trap 'rm -rf "$work"' EXIT
 
-# the libraries of the kit, and the crates that the program uses
-libraries=()
-while IFS=: read -r name uses; do
-    libraries+=(--lib "$name:$(echo $uses | tr ' ' ,)=$kit/$name/src/lib.rt")
-done <"$kit/libs.txt"
-for name in network board; do
-    libraries+=(--lib "$name=$root/crates/$name/src/lib.rt")
+# The crates that the program uses, as they stand, beside the program.
+mkdir -p "$work/crates/holder/src"
+for name in network soonest board; do
+    mkdir "$work/crates/$name"
+    cp -r "$root/crates/$name/src" "$root/crates/$name/specs" "$root/crates/$name/proofs" "$work/crates/$name/"
 done
+printf 'network:\nsoonest: network\nboard: network soonest\nholder: network soonest board\n' >"$work/crates.txt"
 
 # A program that makes a board with one bay, and then does what it is given.
 compile() { # STATEMENTS
-    printf 'use board::Board;\nuse board::Hold;\n\nfn main() {\n    if let Ok(mut board) = Board::new(7, &[1]) {\n        %s\n    }\n}\n' "$1" >"$work/main.rt"
-    "$kit/bin/rattle-print-mir" "$work/main.rt" --crate-name holder "${libraries[@]}" >/dev/null 2>"$work/said"
+    printf '#![tactic(auto)]\n\nuse board::{Board, Hold};\n\nfn main() {\n    if let Ok(mut board) = Board::new(7, &[1]) {\n        %s\n    }\n}\n' "$1" >"$work/crates/holder/src/main.rt"
+    (cd "$work/crates/holder" && rt try) >"$work/said" 2>&1
 }
 
 fail() { # WORDS
     echo "$1" >&2
-    cat "$work/main.rt" "$work/said" >&2
+    cat "$work/crates/holder/src/main.rt" "$work/said" >&2
     exit 1
 }
 
 accepted() { # LABEL STATEMENTS
     compile "$2" || fail "$1: the compiler refuses what it must accept"
+    ! grep -qF 'error[' "$work/said" || fail "$1: the compiler refuses what it must accept"
+    echo "$1: accepted, as it must be"
 }
 
 refused() { # LABEL ERROR STATEMENTS
