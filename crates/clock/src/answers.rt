@@ -5,7 +5,7 @@ ghost use Rattle.clock.specs.Model.{clock_roads, clock_estimate};
 ghost use Rattle.clock.specs.ClockLaws.{roads_wellformed, roads_lawful, roads_admissible};
 ghost use mathlib.Core.HLevel.{is_prop→PathP};
 ghost use Rattle.std.proofs.Math.Bridge.{le_prop};
-ghost use Rattle.std.proofs.Common.{rules, arith};
+ghost use Rattle.std.proofs.Common.{rules};
 
 use crate::roads::ClockRoads;
 use crate::seconds::{LAST_DEPARTURE, Seconds};
@@ -22,7 +22,7 @@ impl Network for ClockRoads {
 
     ghost lawful = { roads_lawful };
 
-    ghost reads = { first_of (Prim.search rules, Prim.grind (arith, Self.row.coded.inj)) };
+    ghost reads = { Prim.search rules };
 
     ghost same = { λ s q r e i. record { value = e i; within = is_prop→PathP (λ k. e k ≤ 172800) (λ k. le_prop) q.within r.within i } };
 

@@ -12,7 +12,10 @@ use network::lower_bound;
 
 // On the straight line between (d, a) and (e, b), the fraction dropped.
 fn interpolate(d: u32, a: u32, e: u32, b: u32, t: u32) -> u32
-    requires { (d ≤ t) × ((t ≤ e) × ((d < e) × (a ≤ b))) }
+    requires after { d ≤ t }
+    requires before { t ≤ e }
+    requires apart { d < e }
+    requires rising { a ≤ b }
     ensures { result ≡ between d a e b t }
 {
     let share = (t - d) as u64 * (b - a) as u64 / (e - d) as u64;
@@ -21,7 +24,8 @@ fn interpolate(d: u32, a: u32, e: u32, b: u32, t: u32) -> u32
 
 // By the first pair of the arc's points whose second departure is not before t; finding it takes O(log points) steps.
 fn enter(points: &[u32], departures: &[u32], arrivals: &[u32], arc: usize, t: u32) -> u32
-    requires { (Open points.now departures.now arrivals.now arc) × (t ≤ 86400) }
+    requires open_arc { Open points.now departures.now arrivals.now arc }
+    requires early { t ≤ 86400 }
     ensures { entered departures.now arrivals.now (slice_index points.now arc) (slice_index points.now (arc + 1) - slice_index points.now arc) t ≡ Some result }
 {
     let first = points[arc] as usize;

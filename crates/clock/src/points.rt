@@ -13,7 +13,9 @@ const MOST_POINTS: usize = 65_536;
 const LEAST_POINTS: u32 = 2;
 
 fn departure_fits(departures: &[u32], first: usize, end: usize, place: usize) -> bool
-    requires { (first ≤ place) × ((place < end) × (end ≤ length departures.now)) }
+    requires from { first ≤ place }
+    requires until { place < end }
+    requires within { end ≤ length departures.now }
     ensures { result ≡ departs departures.now first end place }
 {
     let departure = departures[place];
@@ -31,7 +33,8 @@ fn departure_fits(departures: &[u32], first: usize, end: usize, place: usize) ->
 }
 
 fn arrival_fits(departures: &[u32], arrivals: &[u32], place: usize) -> bool
-    requires { (place < length departures.now) × (place < length arrivals.now) }
+    requires departure { place < length departures.now }
+    requires arrival { place < length arrivals.now }
     ensures { result ≡ arrives departures.now arrivals.now place }
 {
     departures[place] < arrivals[place] && arrivals[place] <= LAST_ARRIVAL
@@ -45,7 +48,11 @@ fn check_point(
     end: usize,
     place: usize,
 ) -> Result<(), TableFault>
-    requires { (first ≤ place) × ((place < end) × ((end ≤ length departures.now) × ((end ≤ length arrivals.now) × (end < 2 ^ 32)))) }
+    requires from { first ≤ place }
+    requires until { place < end }
+    requires departure { end ≤ length departures.now }
+    requires arrival { end ≤ length arrivals.now }
+    requires few { end < 2 ^ 32 }
     ensures { refused table_fault result ≡ point_refusal departures.now arrivals.now arc first end place }
 {
     if !departure_fits(departures, first, end, place) {
@@ -75,7 +82,10 @@ fn check_arc(
     arrivals: &[u32],
     arc: u32,
 ) -> Result<(), TableFault>
-    requires { (arc + 1 < length points.now) × ((slice_index points.now arc ≤ slice_index points.now (arc + 1)) × ((slice_index points.now (arc + 1) ≤ length departures.now) × (length arrivals.now ≡ length departures.now))) }
+    requires there { arc + 1 < length points.now }
+    requires rising { slice_index points.now arc ≤ slice_index points.now (arc + 1) }
+    requires within { slice_index points.now (arc + 1) ≤ length departures.now }
+    requires alike { length arrivals.now ≡ length departures.now }
     ensures { refused table_fault result ≡ arc_refusal points.now departures.now arrivals.now arc }
 {
     let first = points[arc as usize] as usize;

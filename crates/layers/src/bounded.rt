@@ -26,7 +26,8 @@ pub(crate) fn position<T: OnArc>(list: &[T], arc: u32) -> Option<usize>
 // Moves what follows one place to the front; the last entry stays where it was.
 pub(crate) fn close_gap<T: Copy>(list: &mut [T], at: usize)
     requires { at < length list.old }
-    ensures { (((i : ℕ) (d : T) → i < at → slice_index_or list.new i d ≡ slice_index_or list.old i d)) × (((i : ℕ) (d : T) → at ≤ i → i + 1 < length list.old → slice_index_or list.new i d ≡ slice_index_or list.old (i + 1) d)) }
+    ensures before { (i : ℕ) (d : T) → i < at → slice_index_or list.new i d ≡ slice_index_or list.old i d }
+    ensures after { (i : ℕ) (d : T) → at ≤ i → i + 1 < length list.old → slice_index_or list.new i d ≡ slice_index_or list.old (i + 1) d }
 {
     for i in at + 1..list.len() {
         list[i - 1] = list[i];

@@ -3,7 +3,7 @@ ghost use Rattle.std.specs.Prelude.{◌≡◌};
 ghost use Rattle.layers.specs.Held.{closed_arcs};
 ghost use Rattle.network.specs.Layers.{closed};
 ghost use Rattle.network.proofs.Layering.{closed_wellformed, closed_lawful, closed_admissible};
-ghost use Rattle.std.proofs.Common.{rules, arith};
+ghost use Rattle.std.proofs.Common.{rules};
 
 use crate::closed::Closures;
 use network::{Guide, Network, SiteSet};
@@ -19,9 +19,9 @@ impl<G: Network> Network for Closures<G> {
 
     ghost lawful = { λ s. closed_lawful (G.Network.roads s.below) (G.Network.wellformed s.below) (G.Network.lawful s.below) (closed_arcs s) };
 
-    ghost reads = { first_of (Prim.search rules, Prim.grind (arith, Self.row.coded.inj)) };
+    ghost reads = { Prim.search rules };
 
-    ghost same = { first_of (Prim.search rules, Prim.grind (arith, Self.row.coded.inj)) };
+    ghost same = { Prim.search rules };
 
     fn junctions(&self) -> u32 {
         self.below.junctions()

@@ -3,7 +3,7 @@ ghost use Rattle.std.specs.Prelude.{◌≡◌};
 ghost use Rattle.layers.specs.Held.{detour_pairs};
 ghost use Rattle.network.specs.Layers.{detoured};
 ghost use Rattle.network.proofs.Layering.{detoured_wellformed, detoured_lawful, detoured_admissible};
-ghost use Rattle.std.proofs.Common.{rules, arith};
+ghost use Rattle.std.proofs.Common.{rules};
 
 use crate::detoured::Detours;
 use network::{Guide, Network, SiteSet};
@@ -19,9 +19,9 @@ impl<G: Network> Network for Detours<G> {
 
     ghost lawful = { λ s. detoured_lawful (G.Network.roads s.below) (G.Network.wellformed s.below) (G.Network.lawful s.below) (detour_pairs s) };
 
-    ghost reads = { first_of (Prim.search rules, Prim.grind (arith, Self.row.coded.inj)) };
+    ghost reads = { Prim.search rules };
 
-    ghost same = { first_of (Prim.search rules, Prim.grind (arith, Self.row.coded.inj)) };
+    ghost same = { Prim.search rules };
 
     fn junctions(&self) -> u32 {
         self.below.junctions()

@@ -26,7 +26,7 @@ impl Network for LengthRoads {
 
     ghost lawful = { roads_lawful };
 
-    ghost reads = { first_of (Prim.search rules, Prim.grind (arith, Self.row.coded.inj)) };
+    ghost reads = { Prim.search rules };
 
     ghost same = { λ s q r e.
         let a = q.few in

@@ -24,7 +24,8 @@ pub(crate) fn put_place<T: Copy>(slots: &mut [Slot<T>], at: usize, to: u32)
 }
 
 pub(crate) fn exchange_items<T: Copy>(slots: &mut [Slot<T>], i: usize, j: usize)
-    requires { (i < length slots.old) × (j < length slots.old) }
+    requires one { i < length slots.old }
+    requires other { j < length slots.old }
     ensures long { length slots.new ≡ length slots.old }
     ensures items { (d : Slot T) → Swapped (item slots.old d) (item slots.new d) i j }
     ensures places { (d : Slot T) → Same (place slots.old d) (place slots.new d) }
@@ -36,7 +37,8 @@ pub(crate) fn exchange_items<T: Copy>(slots: &mut [Slot<T>], i: usize, j: usize)
 }
 
 pub(crate) fn exchange_places<T: Copy>(slots: &mut [Slot<T>], i: usize, j: usize)
-    requires { (i < length slots.old) × (j < length slots.old) }
+    requires one { i < length slots.old }
+    requires other { j < length slots.old }
     ensures long { length slots.new ≡ length slots.old }
     ensures items { (d : Slot T) → Same (item slots.old d) (item slots.new d) }
     ensures places { (d : Slot T) → Swapped (place slots.old d) (place slots.new d) i j }

@@ -14,7 +14,9 @@ pub loop-arc-init : goal.loop-arc-init
 loop-arc-init c = (cut_says c.args.arcs c.args.points.now c.args.departures.now c.args.arrivals.now (sym c.if-not-well_cut.ensures), first_zero (arc_refusal c.args.points.now c.args.departures.now c.args.arrivals.now))
 
 pub check_arc-requires : goal.check_arc-requires
-check_arc-requires c = cut_within c.args.arcs c.args.points.now c.args.departures.now c.args.arrivals.now c.loop-arc.invariant.0 c.loop-arc.arc (omega arith)
+check_arc-requires c =
+    let k = cut_within c.args.arcs c.args.points.now c.args.departures.now c.args.arrivals.now c.loop-arc.invariant.0 c.loop-arc.arc (omega arith) in
+    record { there = k.0; rising = k.1.0; within = k.1.1.0; alike = k.1.1.1 }
 
 pub returns-in_err-check_arc : goal.returns-in_err-check_arc
 returns-in_err-check_arc c =

@@ -11,5 +11,5 @@ returns g c =
     record {
       long = c.put_place-2.ensures.long ∙ c.put_place.ensures.long;
       items = λ d k. c.put_place-2.ensures.items d k ∙ c.put_place.ensures.items d k;
-      places = λ d. swapped_by_puts (place s d) (place c.put_place.new.slots d) (place c.put_place-2.new.slots d) c.args.i c.args.j (place s x.result c.args.i) (place s y.result c.args.j) (any_place s c.args.i x.result d c.requires.0) (any_place s c.args.j y.result d c.requires.1) (c.put_place.ensures.places d) (c.put_place-2.ensures.places d);
+      places = λ d. swapped_by_puts (place s d) (place c.put_place.new.slots d) (place c.put_place-2.new.slots d) c.args.i c.args.j (place s x.result c.args.i) (place s y.result c.args.j) (any_place s c.args.i x.result d c.requires.one) (any_place s c.args.j y.result d c.requires.other) (c.put_place.ensures.places d) (c.put_place-2.ensures.places d);
     }

@@ -19,7 +19,10 @@ pub enter-requires : goal.enter-requires
 enter-requires c =
     let s = c.args.self.now in
     let e = s.streets.heads.ok.0 in
-    (rw (c.as_slice.ensures.value, c.as_slice-2.ensures.value, c.as_slice-3.ensures.value) (roads_open s c.args.arc (omega arith)), c.if-t-gt-LAST_DEPARTURE.false)
+    record {
+      open_arc = rw (c.as_slice.ensures.value, c.as_slice-2.ensures.value, c.as_slice-3.ensures.value) (roads_open s c.args.arc (omega arith));
+      early = c.if-t-gt-LAST_DEPARTURE.false;
+    }
 
 pub returns : goal.returns
 returns c =

@@ -11,6 +11,6 @@ returns g c =
     let f = c.in-Some.ensures in
     record {
       result = sym (lift_fine (λ a. a) (g.G.Network.roads s.below).arcs 0 (closed_arcs s) c.args.arc l (found_stands (λ a. a) c.args.arc (closed_arcs s) c.in-Some.at f));
-      arcs = array_closed s.arcs c.close_gap.new.list _ s.count c.in-Some.at (search rules) (search rules) (search rules) (λ i d m. c.close_gap.ensures.0 i d m) (λ i d m n. c.close_gap.ensures.1 i d m n) ∙ sym (found_without (λ a. a) c.args.arc (closed_arcs s) c.in-Some.at f);
+      arcs = array_closed s.arcs c.close_gap.new.list _ s.count c.in-Some.at (search rules) (search rules) (search rules) (λ i d m. c.close_gap.ensures.before i d m) (λ i d m n. c.close_gap.ensures.after i d m n) ∙ sym (found_without (λ a. a) c.args.arc (closed_arcs s) c.in-Some.at f);
       below = refl;
     }

@@ -11,7 +11,7 @@ returns g c =
     let f = c.in-Some.ensures in
     record {
       result = sym (lift_fine (λ d. d.arc) (g.G.Network.roads s.below).arcs 0 (held_detours s) c.args.arc l (found_stands (λ d. d.arc) c.args.arc (held_detours s) c.in-Some.at f));
-      detours = array_closed s.detours c.close_gap.new.list _ s.count c.in-Some.at (search rules) (search rules) (search rules) (λ i d m. c.close_gap.ensures.0 i d m) (λ i d m n. c.close_gap.ensures.1 i d m n) ∙ sym (found_without (λ d. d.arc) c.args.arc (held_detours s) c.in-Some.at f);
+      detours = array_closed s.detours c.close_gap.new.list _ s.count c.in-Some.at (search rules) (search rules) (search rules) (λ i d m. c.close_gap.ensures.before i d m) (λ i d m n. c.close_gap.ensures.after i d m n) ∙ sym (found_without (λ d. d.arc) c.args.arc (held_detours s) c.in-Some.at f);
       below = refl;
     }
 
