@@ -17,7 +17,7 @@ printf 'network:\nsoonest: network\nboard: network soonest\nholder: network soon
 # A program that makes a board with one bay, and then does what it is given.
 compile() { # STATEMENTS
     printf '#![tactic(auto)]\n\nuse board::{Board, Hold};\n\nfn main() {\n    if let Ok(mut board) = Board::new(7, &[1]) {\n        %s\n    }\n}\n' "$1" >"$work/crates/holder/src/main.rt"
-    (cd "$work/crates/holder" && rt try) >"$work/said" 2>&1
+    (cd "$work/crates/holder" && rt try) </dev/null >"$work/said" 2>&1
 }
 
 fail() { # WORDS

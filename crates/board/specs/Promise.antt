@@ -50,7 +50,7 @@ Right first past (asking g layers q) answer = SoonestOr (ask_refusal (under laye
 Right first past (holding s) answer = answer ≡ hold_by_counts first past s
 Right first past (handing_back number s) answer = answer ≡ back_by_counts first past number s
 
--- By the board's table, as the contracts of the calls give it.
+-- By the board's table, as the contracts of holding and handing back give it.
 
 abbrev pub ask_answer : Result Stage Refusal → Answer
 ask_answer (Ok s) = listing s.listed s.way

@@ -1,6 +1,6 @@
 -- One hold more or fewer among those that are kept. Assumes nothing.
 use Rattle.std.proofs.Common.{◌≡◌, ℕ, zero, suc, ◌+◌, ◌-◌, ◌<◌, cond, eqb, List, [], ◌∷◌, ◌++◌, length, get_or, take, drop, set, Some, None, Option, sym, refl, ap, ◌∙◌, subst, ⊎_elim, arith, length-take, get_or-take}
-use Rattle.std.proofs.lemmas.List.{set_split, set-get_or}
+use Rattle.std.proofs.lemmas.List.{append-nil, set_split, set-get_or}
 use Rattle.std.proofs.lemmas.Bool.{cond-true, cond-false, cases_eq, cases_lt, lt-ltb, eq-eqb, ne_eqb}
 use Rattle.network.specs.declared.refusals.Refusal.{Refusal}
 use Rattle.soonest.specs.Stages.{upd}
@@ -46,10 +46,6 @@ bear_push n (y ∷ xs) x e all = (all.0, bear_push n xs x e all.1)
 -- what a desk keeps of its board's table: every hold bears its number, and those of each site number what is out there
 abbrev pub Tallies : Table → List Kept → Type 0
 Tallies t xs = ((i : ℕ) (d : Kept) → i < length xs → (hold_bears (get_or xs i d).hold).0 ≡ t.number) × ((s : ℕ) → kept_at (named_sites xs) s ≡ t.out s)
-
-append-nil : (xs : List Kept) → xs ++ [] ≡ xs
-append-nil [] = refl
-append-nil (x ∷ xs) = ap (λ ys. x ∷ ys) (append-nil xs)
 
 -- one more hold, of the site s
 pub tallies_more : (t : Table) (xs : List Kept) (x : Kept) (s : ℕ) → (hold_bears x.hold).0 ≡ t.number → (hold_bears x.hold).1 ≡ s → Tallies t xs → Tallies (one_more_out None t s) (xs ++ x ∷ [])
