@@ -12,7 +12,7 @@ for name in network soonest board; do
     mkdir "$work/crates/$name"
     cp -r "$root/crates/$name/src" "$root/crates/$name/specs" "$root/crates/$name/proofs" "$work/crates/$name/"
 done
-printf 'network:\nsoonest: network\nboard: network soonest\nholder: network soonest board\n' >"$work/crates.txt"
+printf 'network:\nsoonest: network\nboard: network soonest arrayvec\nholder: network soonest board\n' >"$work/crates.txt"
 
 # A program that makes a board with one bay, and then does what it is given.
 compile() { # STATEMENTS
@@ -45,3 +45,4 @@ refused 'a hold that falls at the end of its scope' linear-value-let-go 'if let 
 refused 'a hold that is taken apart' private-field 'if let Ok(hold) = board.hold(0) { let Hold { number: _, site: _ } = hold; }'
 refused 'a hold that is forged' private-field "let hold = Hold { number: 7, site: 0 }; $back"
 refused 'a hold that is used twice' borrow-e0382 "if let Ok(hold) = board.hold(0) { $back $back }"
+refused 'a hold that comes back and then falls' linear-value-let-go 'if let Ok(hold) = board.hold(0) { match board.hand_back(hold) { Ok(()) => {} Err(_returned) => {} } }'

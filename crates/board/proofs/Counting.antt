@@ -1,30 +1,25 @@
 -- What stands by the counts keeps standing by them, whatever is held or handed back. Assumes nothing.
 use Rattle.std.proofs.Common.{◌≡◌, ℕ, suc, ◌+◌, ◌-◌, ◌<◌, ◌≤◌, Bool, true, false, ◌&&◌, eqb, ltb, List, [], ◌∷◌, length, get_or, Some, None, Option, sym, refl, ap, ◌∙◌, subst, ⊎_elim, arith}
 use Rattle.std.specs.Option.{option_or}
-use Rattle.std.proofs.lemmas.Bool.{and_parts, and_from, cases_eq, cases_lt, lt-ltb, le-ltb, ltb-true, eq-eqb, ne_eqb, eqb-true}
+use Rattle.std.proofs.lemmas.Bool.{false_from_ne_true, and_parts, and_from, cases_eq, cases_lt, lt-ltb, le-ltb, ltb-true, eq-eqb, eqb-true}
 use Rattle.network.specs.First.{unless}
 use Rattle.network.specs.Refused.{refusal}
 use Rattle.network.specs.declared.refusals.Places.TheVariants.{Call as the_call}
 use Rattle.network.specs.declared.refusals.Refusal.{Refusal}
 use Rattle.network.proofs.First.{clash, or_none, unless_none, unless_true}
-use Rattle.network.proofs.Refusing.{not_so}
 use Rattle.soonest.specs.Stages.{upd}
+use Rattle.soonest.proofs.Turns.{upd_other}
+use Rattle.soonest.proofs.Updates.{upd_at}
 use Rattle.board.specs.Calls.{Call, holding, handing_back, First, Tally, grant, take_back, bays_at, tally, granted_at, taken_back_at, free_at}
 use Rattle.board.specs.Promise.{Stands, hold_answer, hold_by_counts, back_answer, back_by_counts}
 use Rattle.board.specs.Tables.{Table, first_state, has_free, sites_of, hold_refusal, one_more_out, back_refusal, one_less_out}
-
-pub upd_same : {X : Type 0} (f : ℕ → X) (j : ℕ) (x : X) (i : ℕ) → i ≡ j → upd f j x i ≡ x
-upd_same f j x i e = ap (λ b. elim b [ true ↦ x | false ↦ f i ]) (eq-eqb i j e)
-
-pub upd_other : {X : Type 0} (f : ℕ → X) (j : ℕ) (x : X) (i : ℕ) → (i ≡ j → ⊥) → upd f j x i ≡ f i
-upd_other f j x i e = ap (λ b. elim b [ true ↦ x | false ↦ f i ]) (ne_eqb i j e)
 
 -- two tests of which each says the other
 pub same_test : (a b c d : ℕ) → (a < b → c < d) → (c < d → a < b) → ltb a b ≡ ltb c d
 same_test a b c d there back =
     ⊎_elim
     (λ l. lt-ltb a b l ∙ sym (lt-ltb c d (there l)))
-    (λ l. le-ltb a b l ∙ sym (not_so (ltb c d) (λ e. let k = back (ltb-true c d e) in omega arith)))
+    (λ l. le-ltb a b l ∙ sym (false_from_ne_true (ltb c d) (λ e. let k = back (ltb-true c d e) in omega arith)))
     (cases_lt a b)
 
 -- two tests in turn that refuse nothing both pass
@@ -90,7 +85,7 @@ module _ (first : First) (past : List Call) (t : Table) (stands : Stands first p
     granted i e = ap (λ b. grant b (tally first past i)) e
 
     granted_elsewhere : (i : ℕ) → (i ≡ s → ⊥) → one_granted i ≡ false
-    granted_elsewhere i n = not_so (one_granted i) (λ e. n (sym (eqb-true s i (and_parts (eqb s i) _ (and_parts _ _ e).0).0)))
+    granted_elsewhere i n = false_from_ne_true (one_granted i) (λ e. n (sym (eqb-true s i (and_parts (eqb s i) _ (and_parts _ _ e).0).0)))
 
     granted_here : one_granted s ≡ true → hold_refusal t s ≡ None
     unfolding hold_refusal
@@ -116,13 +111,13 @@ module _ (first : First) (past : List Call) (t : Table) (stands : Stands first p
             let g = here_granted e in
             let l = level s in
             let m = ltb-true _ _ (and_parts (eqb s s && ltb s (length first.bays)) _ g).1 in
-            relevel (bays_at first s) (upd_same t.out s (suc (t.out s)) s refl) (granted s g) (omega arith, omega arith)
+            relevel (bays_at first s) (upd_at t.out s (suc (t.out s)) s refl) (granted s g) (omega arith, omega arith)
     hold_levels (Some r) e i = relevel (bays_at first i) refl (not_granted i quiet) (level i)
       where
         quiet : one_granted i ≡ false
         quiet =
             ⊎_elim
-            (λ p. subst (λ j. one_granted j ≡ false) (sym p) (not_so (one_granted s) (λ g. clash (hold_refusal t s) r e (granted_here g))))
+            (λ p. subst (λ j. one_granted j ≡ false) (sym p) (false_from_ne_true (one_granted s) (λ g. clash (hold_refusal t s) r e (granted_here g))))
             (granted_elsewhere i)
             (cases_eq i s)
 
@@ -159,7 +154,7 @@ module _ (first : First) (past : List Call) (t : Table) (stands : Stands first p
     taken i e = ap (λ b. take_back b (tally first past i)) e
 
     taken_elsewhere : (i : ℕ) → (i ≡ s → ⊥) → one_taken i ≡ false
-    taken_elsewhere i m = not_so (one_taken i) (λ e. m (sym (eqb-true s i (and_parts (eqb s i) _ (and_parts _ _ (and_parts _ _ e).0).0).0)))
+    taken_elsewhere i m = false_from_ne_true (one_taken i) (λ e. m (sym (eqb-true s i (and_parts (eqb s i) _ (and_parts _ _ (and_parts _ _ e).0).0).0)))
 
     number_same : eqb n t.number ≡ eqb n first.number
     number_same = ap (eqb n) stands.number
@@ -194,13 +189,13 @@ module _ (first : First) (past : List Call) (t : Table) (stands : Stands first p
             let g = here_taken e in
             let l = level s in
             let m = ltb-true _ _ (and_parts (eqb s s && eqb n first.number && ltb s (length first.bays)) _ g).1 in
-            relevel (bays_at first s) (upd_same t.out s (t.out s - 1) s refl) (taken s g) (omega arith, omega arith)
+            relevel (bays_at first s) (upd_at t.out s (t.out s - 1) s refl) (taken s g) (omega arith, omega arith)
     back_levels (Some r) e i = relevel (bays_at first i) refl (not_taken i quiet) (level i)
       where
         quiet : one_taken i ≡ false
         quiet =
             ⊎_elim
-            (λ p. subst (λ j. one_taken j ≡ false) (sym p) (not_so (one_taken s) (λ g. clash (back_refusal t n s) r e (taken_here g))))
+            (λ p. subst (λ j. one_taken j ≡ false) (sym p) (false_from_ne_true (one_taken s) (λ g. clash (back_refusal t n s) r e (taken_here g))))
             (taken_elsewhere i)
             (cases_eq i s)
 

@@ -1,6 +1,6 @@
 pub mod Counting
-pub mod Fronts
+pub mod Columns
 pub mod Boards
 pub mod Gathering
-pub mod Copying
+pub mod Entries
 pub mod Promised

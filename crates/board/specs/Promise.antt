@@ -1,5 +1,5 @@
 -- What is promised of every call after any list of calls. Assumes nothing.
-use Rattle.std.specs.Prelude.{◌≡◌, ℕ, ◌+◌, ◌≤◌, Bool, true, false, ◌&&◌, ltb, List, [], ◌∷◌, length, Some, None, Ok, Err, Option, Result, ◌==◌, nat_lt}
+use Rattle.std.specs.Prelude.{◌≡◌, ℕ, ◌+◌, ◌≤◌, Bool, true, false, ◌&&◌, List, [], ◌∷◌, length, Some, None, Ok, Err, Option, Result, ◌==◌, nat_lt}
 use Rattle.std.specs.Option.{option_or}
 use Rattle.network.specs.First.{unless}
 use Rattle.network.specs.Refused.{refusal}
@@ -46,7 +46,7 @@ SoonestOr None g free q answer = (h : ℕ) × (listed : List (ℕ × ℕ)) × (w
 
 -- what is promised of the next call's answer
 abbrev pub Right : First → List Call → Call → Answer → Type 0
-Right first past (asking g layers q) answer = SoonestOr (ask_refusal (under layers g) (length first.bays) q) (under layers g) (λ s. ltb 0 (free_at first past s)) q answer
+Right first past (asking g layers q) answer = SoonestOr (ask_refusal (under layers g) (length first.bays) q) (under layers g) (λ s. nat_lt 0 (free_at first past s)) q answer
 Right first past (holding s) answer = answer ≡ hold_by_counts first past s
 Right first past (handing_back number s) answer = answer ≡ back_by_counts first past number s
 
@@ -85,6 +85,18 @@ pub record Stands (first : First) (past : List Call) (t : Table) : Type 0 where
   pub bays : t.bays ≡ first.bays
   pub out : (s : ℕ) → t.out s + taken_back_at first past s ≡ granted_at first past s
   pub never_more : (s : ℕ) → granted_at first past s ≤ bays_at first s + taken_back_at first past s
+
+-- some calls on a board that stands, whatever calls came before: what is promised of them holds, and the board stands after
+abbrev pub OverEveryPast : (before : Table) → (promised : First → List Call → Type 0) → (later : First → List Call → List Call) → (after : Table) → Type 0
+OverEveryPast before promised later after = (first : First) (past : List Call) → Stands first past before → promised first past × Stands first (later first past) after
+
+-- one call: its answer is right, and the board stands after it
+abbrev pub Throughout : (before : Table) → Call → Answer → (after : Table) → Type 0
+Throughout before call answer after = OverEveryPast before (λ first past. Right first past call answer) (λ first past. call ∷ past) after
+
+-- a board stands as new, with this number and these bays
+abbrev pub StandsNew : (number : ℕ) → List ℕ → Table → Type 0
+StandsNew number bays t = (first : First) → first.number ≡ number → first.bays ≡ bays → Stands first [] t
 
 -- whether an answer says that the board is altered: a hold is granted, or ended
 abbrev pub alters : Answer → Bool

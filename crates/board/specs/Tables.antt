@@ -1,5 +1,5 @@
 -- A board as its table, and what holding and handing back make of it. Assumes nothing.
-use Rattle.std.specs.Prelude.{ℕ, suc, ◌-◌, Bool, ◌&&◌, leb, List, length, Some, None, Option, ◌==◌, nat_le, nat_lt, slice_index}
+use Rattle.std.specs.Prelude.{ℕ, suc, ◌-◌, Bool, ◌&&◌, List, length, Some, None, Option, ◌==◌, nat_le, nat_lt, slice_index}
 use Rattle.std.specs.Option.{option_or}
 use Rattle.network.specs.First.{unless, every}
 use Rattle.network.specs.Refused.{refusal}
@@ -19,7 +19,7 @@ first_state number bays = record { number = number; bays = bays; out = λ _. 0 }
 
 -- over 64 sites, or a site of over 8 bays
 unfoldable pub board_refusal : List ℕ → Option Refusal
-board_refusal bays = unless (nat_le (length bays) 64 && every (λ s. leb (slice_index bays s) 8) (length bays)) (refusal 13 Call)
+board_refusal bays = unless (nat_le (length bays) 64 && every (λ s. nat_le (slice_index bays s) 8) (length bays)) (refusal 13 Call)
 
 abbrev pub sites_of : Table → ℕ
 sites_of t = length t.bays

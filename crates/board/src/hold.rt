@@ -2,18 +2,10 @@
 ghost use Rattle.std.specs.Prelude.{◌≡◌};
 ghost use Rattle.board.specs.Held.{hold_bears};
 
-use crate::faults::BackFault;
-
 // The number of the board that gave it, and the site of the bay.
 pub struct Hold {
     pub(crate) number: u32,
     pub(crate) site: u32,
-}
-
-// A hold that was not taken back, returned whole, and why.
-pub struct ReturnedHold {
-    pub fault: BackFault,
-    pub hold: Hold,
 }
 
 impl Hold {

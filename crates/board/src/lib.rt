@@ -10,4 +10,4 @@ mod making;
 
 pub use board::Board;
 pub use faults::{BackFault, BoardFault, HoldFault};
-pub use hold::{Hold, ReturnedHold};
+pub use hold::Hold;

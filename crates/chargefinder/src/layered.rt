@@ -1,15 +1,18 @@
 // The roads that commands are answered on: closures over detours over the kind chosen.
+use crate::moves::show_refusal;
 use clock::ClockRoads;
 use console::{Kind, clock_tables, length_tables};
 use depot::Depot;
 use layers::{Closures, Detours};
 use length::LengthRoads;
-use network::Fault;
+use network::{Refusal, Returned};
+
+pub type Piled<N> = Closures<Detours<N>>;
 
 #[derive(Drop)]
 pub enum Layered {
-    Clock(Closures<Detours<ClockRoads>>),
-    Length(Closures<Detours<LengthRoads>>),
+    Clock(Piled<ClockRoads>),
+    Length(Piled<LengthRoads>),
 }
 
 // Says which roads are open, or what they are refused by.
@@ -18,35 +21,29 @@ pub(crate) fn open_roads(
     depot: &Depot,
     kind: Kind,
 ) -> anyhow::Result<Option<Layered>> {
-    match kind {
-        Kind::Clock => open_clock(rt, depot),
-        Kind::Length => open_length(rt, depot),
-    }
+    Ok(match kind {
+        Kind::Clock => layers_over(rt, kind, ClockRoads::try_from(clock_tables(depot)?))?.map(
+            Layered::Clock,
+        ),
+        Kind::Length => layers_over(rt, kind, LengthRoads::try_from(length_tables(depot)?))?.map(
+            Layered::Length,
+        ),
+    })
 }
 
-fn open_clock(rt: &HostRuntime, depot: &Depot) -> anyhow::Result<Option<Layered>> {
-    match clock_tables(rt.alloc(), depot)?.examine() {
+// With no arc closed and no detour.
+fn layers_over<R: Drop, T: Drop, F: Into<Refusal>>(
+    rt: &HostRuntime,
+    kind: Kind,
+    examined: Result<R, Returned<T, F>>,
+) -> anyhow::Result<Option<Piled<R>>> {
+    match examined {
         Ok(roads) => {
-            println!(rt; "roads clock")?;
-            Ok(Some(Layered::Clock(Closures::over(Detours::over(roads)))))
+            println!(rt; "roads {kind}")?;
+            Ok(Some(Closures::over(Detours::over(roads))))
         }
-        Err(refused) => {
-            let refusal = refused.fault.refusal();
-            println!(rt; "{refusal}")?;
-            Ok(None)
-        }
-    }
-}
-
-fn open_length(rt: &HostRuntime, depot: &Depot) -> anyhow::Result<Option<Layered>> {
-    match length_tables(rt.alloc(), depot)?.examine() {
-        Ok(roads) => {
-            println!(rt; "roads length")?;
-            Ok(Some(Layered::Length(Closures::over(Detours::over(roads)))))
-        }
-        Err(refused) => {
-            let refusal = refused.fault.refusal();
-            println!(rt; "{refusal}")?;
+        Err(Returned { fault, value: _ }) => {
+            show_refusal(rt, fault)?;
             Ok(None)
         }
     }

@@ -1,7 +1,7 @@
 // What a van does on roads of any kind, and how their layers change.
 use console::{carry_from, drive, start_of};
 use layers::LayerFault;
-use network::{Fault, Network};
+use network::{Network, Refusal};
 use std::fmt;
 
 fn show_arrival<R: fmt::Display + Drop>(
@@ -13,6 +13,11 @@ fn show_arrival<R: fmt::Display + Drop>(
         None => println!(rt; "nothing")?,
     }
     Ok(())
+}
+
+pub(crate) fn show_refusal(rt: &HostRuntime, fault: impl Into<Refusal>) -> anyhow::Result<()> {
+    let refusal: Refusal = fault.into();
+    Ok(println!(rt; "{refusal}")?)
 }
 
 pub(crate) fn show_carry<N: Network>(
@@ -41,13 +46,10 @@ where
             for arrival in drive(rt.alloc(), roads, reading, arcs)?.iter() {
                 show_arrival(rt, *arrival)?;
             }
+            Ok(())
         }
-        Err(fault) => {
-            let refusal = fault.refusal();
-            println!(rt; "{refusal}")?;
-        }
+        Err(fault) => show_refusal(rt, fault),
     }
-    Ok(())
 }
 
 // What a layer was told, or why it was not changed.
@@ -57,11 +59,7 @@ pub(crate) fn show_change(
     change: Result<(), LayerFault>,
 ) -> anyhow::Result<()> {
     match change {
-        Ok(()) => println!(rt; "{done}")?,
-        Err(fault) => {
-            let refusal = fault.refusal();
-            println!(rt; "{refusal}")?;
-        }
+        Ok(()) => Ok(println!(rt; "{done}")?),
+        Err(fault) => show_refusal(rt, fault),
     }
-    Ok(())
 }

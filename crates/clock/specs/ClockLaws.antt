@@ -1,12 +1,11 @@
 -- Examined clock tables keep the laws of a network. Assumes nothing.
-use Rattle.std.specs.Prelude.{◌≡◌, ℕ, ◌+◌, ◌-◌, ◌<◌, ◌≤◌, Bool, true, false, ◌&&◌, length, Some, None, vec_items, nat_le, nat_lt, slice_index}
-use Rattle.std.proofs.Math.Path.{refl}
+use Rattle.std.specs.Prelude.{◌≡◌, ℕ, ◌+◌, ◌-◌, ◌<◌, ◌≤◌, length, Some, None, vec_items, slice_index}
 use Rattle.std.proofs.Common.{sym, ◌∙◌, arith}
-use Rattle.std.proofs.lemmas.Bool.{and_parts, and_from, and_left, and_right, leb-true, ltb-true, le-leb, lt-leb, le-ltb, lt-ltb, cond-true, cond-false}
+use Rattle.std.proofs.lemmas.Bool.Decides.{nat_tests}
+use Rattle.std.proofs.lemmas.Bool.{le-leb}
 use Rattle.network.specs.Estimates.{Admissible}
 use Rattle.network.specs.Laws.{WellFormed, Lawful}
-use Rattle.network.proofs.First.{clash, provided_true}
-use Rattle.network.proofs.Following.{some_same, provided_says, reading_admissible}
+use Rattle.network.proofs.Following.{some_same, reading_admissible}
 use Rattle.network.proofs.Refusing.{Arcs, Sited, streets_arcs, streets_sites}
 use Rattle.network.proofs.Tails.{tail_says}
 use Rattle.clock.specs.Arrivals.{entered}
@@ -27,15 +26,15 @@ end t a = slice_index t.points (a + 1)
 
 pub carry_there : (t : Tables) (a h : ℕ) → a < length t.heads → h ≤ 86400 → clock_carry t a h ≡ entered t.departures t.arrivals (first t a) (end t a - first t a) h
 unfolding clock_carry
-carry_there t a h l m = cond-true (nat_lt a (length t.heads) && nat_le h 86400) (entered t.departures t.arrivals (first t a) (end t a - first t a) h) None (and_from (nat_lt a (length t.heads)) (nat_le h 86400) (lt-ltb a (length t.heads) l) (le-leb h 86400 m))
+carry_there t a h l m = grind (arith, nat_tests)
 
 pub carry_no_arc : (t : Tables) (a h : ℕ) → length t.heads ≤ a → clock_carry t a h ≡ None
 unfolding clock_carry
-carry_no_arc t a h l = cond-false (nat_lt a (length t.heads) && nat_le h 86400) (entered t.departures t.arrivals (first t a) (end t a - first t a) h) None (and_left (nat_lt a (length t.heads)) (nat_le h 86400) (le-ltb a (length t.heads) l))
+carry_no_arc t a h l = grind (arith, nat_tests)
 
 pub carry_too_late : (t : Tables) (a h : ℕ) → 86400 < h → clock_carry t a h ≡ None
 unfolding clock_carry
-carry_too_late t a h l = cond-false (nat_lt a (length t.heads) && nat_le h 86400) (entered t.departures t.arrivals (first t a) (end t a - first t a) h) None (and_right (nat_lt a (length t.heads)) (nat_le h 86400) (lt-leb h 86400 l))
+carry_too_late t a h l = grind (arith, nat_tests)
 
 module _ (t : Tables) (arcs : Arcs t.starts t.heads) (sited : Sited (length t.starts - 1) t.sites) (timed : Timed (length t.heads) t.points t.departures t.arrivals) where
   two_points : (a : ℕ) → a < length t.heads → first t a + 2 ≤ end t a
@@ -50,11 +49,7 @@ module _ (t : Tables) (arcs : Arcs t.starts t.heads) (sited : Sited (length t.st
   -- what is carried is carried along an arc that is there, from no later than 86,400
   carry_says : (a h q : ℕ) → clock_carry t a h ≡ Some q → (a < length t.heads) × (h ≤ 86400)
   unfolding clock_carry
-  carry_says a h q e = go (nat_lt a (length t.heads) && nat_le h 86400) refl
-    where
-      go : (b : Bool) → (nat_lt a (length t.heads) && nat_le h 86400) ≡ b → (a < length t.heads) × (h ≤ 86400)
-      go true p = let r = and_parts (nat_lt a (length t.heads)) (nat_le h 86400) p in (ltb-true a (length t.heads) r.0, leb-true h 86400 r.1)
-      go false p = clash (clock_carry t a h) q e (cond-false (nat_lt a (length t.heads) && nat_le h 86400) (entered t.departures t.arrivals (first t a) (end t a - first t a) h) None p)
+  carry_says a h q e = (grind (arith, nat_tests), grind (arith, nat_tests))
 
   carry_within : (a h q : ℕ) → clock_carry t a h ≡ Some q → (h < q) × (q ≤ 172800)
   carry_within a h q e =
@@ -85,22 +80,18 @@ module _ (t : Tables) (arcs : Arcs t.starts t.heads) (sited : Sited (length t.st
         head_within = arcs.within;
         place_within = sited.within;
         no_such_arc = carry_no_arc t;
-        low = λ h e. let k = leb-true h 172800 e in omega arith;
-        start_reads = λ n h e. let p = provided_says (nat_le n 86400) n h e in let k = leb-true n 86400 p.0 in let j = p.1 in le-leb h 172800 (omega arith);
+        low = λ h e. grind (arith, nat_tests);
+        start_reads = λ n h e. grind (arith, nat_tests);
         carry_reads = λ a h q r e. le-leb q 172800 (carry_within a h q e).1;
-        lengthen_reads = λ u h q r e. let p = provided_says (nat_le (h + u) 172800) (h + u) q e in let k = leb-true (h + u) 172800 p.0 in let j = p.1 in le-leb q 172800 (omega arith);
+        lengthen_reads = λ u h q r e. grind (arith, nat_tests);
       }
 
   pub clock_lawful : Lawful (clock_roads t)
   clock_lawful = record {
     rises = λ a h q l r e. (carry_within a h q e).0;
     keeps_order = λ a g h q l rg rh m e. carry_order a g h q m e;
-    lengthens = λ u h q r e. let j = (provided_says (nat_le (h + u) 172800) (h + u) q e).1 in omega arith;
-    lengthens_in_order = λ u g h q rg rh l e.
-        let p = provided_says (nat_le (h + u) 172800) (h + u) q e in
-        let k = leb-true (h + u) 172800 p.0 in
-        let j = p.1 in
-        (g + u, provided_true (nat_le (g + u) 172800) (g + u) (le-leb (g + u) 172800 (omega arith)), omega arith);
+    lengthens = λ u h q r e. grind (arith, nat_tests);
+    lengthens_in_order = λ u g h q rg rh l e. (g + u, grind (arith, nat_tests), grind (arith, nat_tests));
   }
 
   pub clock_admissible : Admissible (clock_roads t) (clock_estimate t)

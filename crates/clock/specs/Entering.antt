@@ -1,6 +1,6 @@
 -- Entering an arc: the pair of points around a second, and what it gives. Assumes nothing.
 use Rattle.std.specs.Prelude.{◌≡◌, ℕ, zero, suc, ◌+◌, ◌-◌, ◌<◌, ◌≤◌, max, List, length, take, drop, Some, nat_le, slice_index, slice_index_or, slice_range, refl}
-use Rattle.std.proofs.Common.{sym, ap₂, subst, subst₂, ◌∙◌, ⊎_elim, arith, length-drop, get_or-take, get_or-drop, length-take-le}
+use Rattle.std.proofs.Common.{sym, subst, ◌∙◌, ⊎_elim, arith, length-drop, get_or-take, get_or-drop, length-take-le}
 use Rattle.std.proofs.lemmas.Bool.{cases_lt, cases_eq, le-leb, lt-leb}
 use Rattle.network.specs.First.{provided}
 use Rattle.network.specs.Lists.{LowerBound}
@@ -20,35 +20,27 @@ module _ (departures arrivals : List ℕ) (first end : ℕ) (two : first + 2 ≤
     pub high : t ≤ slice_index departures (first + i + 1)
     pub earlier : (j : ℕ) → j < i → slice_index departures (first + j + 1) < t
 
-  back : (p : ℕ) → suc p - 1 ≡ p
-  back p = omega arith
-
   pub departures_rise : (i j : ℕ) → first ≤ i → i ≤ j → j < end → slice_index departures i ≤ slice_index departures j
   departures_rise =
-      climb (λ p. slice_index departures p) first end
-      (λ p l m. let r = subst (λ k. slice_index departures k < slice_index departures (suc p)) (back p) ((each (suc p) (omega arith) m).rise (omega arith)) in omega arith)
+      climb (λ p. slice_index departures p) first end (λ p l m. let r = (each (suc p) (omega arith) m).rise (omega arith) in grind arith)
 
   pub arrivals_rise : (i j : ℕ) → first ≤ i → i ≤ j → j < end → slice_index arrivals i ≤ slice_index arrivals j
   arrivals_rise =
-      climb (λ p. slice_index arrivals p) first end
-      (λ p l m. subst (λ k. slice_index arrivals k ≤ slice_index arrivals (suc p)) (back p) ((each (suc p) (omega arith) m).in_order (omega arith)))
+      climb (λ p. slice_index arrivals p) first end (λ p l m. let r = (each (suc p) (omega arith) m).in_order (omega arith) in grind arith)
 
   -- every pair's second departure is after its first
   pair_rises : (i : ℕ) → i + 1 < end - first → slice_index departures (first + i) < slice_index departures (first + i + 1)
-  pair_rises i l = subst (λ k. slice_index departures k < slice_index departures (first + i + 1)) (let e : first + i + 1 - 1 ≡ first + i = omega arith in e) ((each (first + i + 1) (omega arith) (omega arith)).rise (omega arith))
+  pair_rises i l = let r = (each (first + i + 1) (omega arith) (omega arith)).rise (omega arith) in grind arith
 
   least : (t n : ℕ) → n + 1 < end - first → t ≤ slice_index departures (first + n + 1) → (i : ℕ) × Pair t i
-  least t zero k h =
-      let e : first + 0 ≡ first = omega arith in
-      let z = (each first (omega arith) (omega arith)).at_first refl in
-      (0, record { inside = k; low = subst (λ p. slice_index departures p ≤ t) (sym e) (omega arith); high = h; earlier = λ j l. absurd (omega arith) })
+  least t zero k h = let z = (each first (omega arith) (omega arith)).at_first refl in (0, record { inside = k; low = grind arith; high = h; earlier = λ j l. absurd (omega arith) })
   least t (suc n) k h =
       ⊎_elim
       (λ m. (
         suc n,
         record {
           inside = k;
-          low = subst (λ p. slice_index departures p ≤ t) (let e : first + n + 1 ≡ first + suc n = omega arith in e) (omega arith);
+          low = grind arith;
           high = h;
           earlier = λ j l. let r = departures_rise (first + j + 1) (first + n + 1) (omega arith) (omega arith) (omega arith) in omega arith;
         },
@@ -148,26 +140,20 @@ module _ (departures arrivals : List ℕ) (first end : ℕ) (two : first + 2 ≤
 
       at_start : r ≡ 0 → Pair t 0
       at_start z =
-          let e : first + r ≡ first = omega arith in
-          let o : first + 0 ≡ first = omega arith in
-          let h = subst (λ p. t ≤ slice_index departures p) e here in
+          let h = here in
           let n = (each first (omega arith) (omega arith)).at_first refl in
-          record {
-            inside = omega arith;
-            low = subst (λ p. slice_index departures p ≤ t) (sym o) (omega arith);
-            high = let r = pair_rises 0 (omega arith) in omega arith;
-            earlier = λ j m. absurd (omega arith);
-          }
+          let r = pair_rises 0 (omega arith) in
+          record { inside = omega arith; low = grind arith; high = grind arith; earlier = λ j m. absurd (omega arith) }
 
       further : 1 ≤ r → Pair t (r - 1)
       further s =
           let h = subst (λ x. x < t) (part_at (r - 1) (omega (arith, short))) (b.before (omega arith)) in
-          let e : first + r ≡ first + (r - 1) + 1 = omega arith in
+          let k = here in
           record {
             inside = omega (arith, short);
             low = omega arith;
-            high = subst (λ p. t ≤ slice_index departures p) e here;
-            earlier = λ j m. let k = departures_rise (first + j + 1) (first + (r - 1)) (omega arith) (omega arith) (omega (arith, short)) in omega arith;
+            high = grind arith;
+            earlier = λ j m. let d = departures_rise (first + j + 1) (first + (r - 1)) (omega arith) (omega arith) (omega (arith, short)) in omega arith;
           }
 
   -- the pair before and at place first + k
@@ -184,13 +170,16 @@ module _ (departures arrivals : List ℕ) (first end : ℕ) (two : first + 2 ≤
       let e : first + (k - 1) ≡ first + k - 1 = omega arith in
       let f : first + (k - 1) + 1 ≡ first + k = omega arith in
       let n = p.inside in
+      let d = pair_rises (k - 1) n in
+      let a = arrivals_rise (first + (k - 1)) (first + (k - 1) + 1) (omega arith) (omega arith) (omega arith) in
+      let g = pair_at t (k - 1) p in
       record {
         within = omega arith;
-        low = subst (λ i. slice_index departures i ≤ t) e p.low;
-        high = subst (λ i. t ≤ slice_index departures i) f p.high;
-        apart = subst₂ (λ i j. slice_index departures i < slice_index departures j) e f (pair_rises (k - 1) n);
-        in_order = subst₂ (λ i j. slice_index arrivals i ≤ slice_index arrivals j) e f (arrivals_rise (first + (k - 1)) (first + (k - 1) + 1) (omega arith) (omega arith) (omega arith));
-        gives = pair_at t (k - 1) p ∙ ap₂ (λ i j. Some (between (slice_index departures i) (slice_index arrivals i) (slice_index departures j) (slice_index arrivals j) t)) e f;
+        low = let h = p.low in grind arith;
+        high = let h = p.high in grind arith;
+        apart = grind arith;
+        in_order = grind arith;
+        gives = rw (← e, ← f) g;
       }
 
 -- and by a lower bound, in an arc that can be entered

@@ -3,12 +3,13 @@ use Rattle.std.specs.Prelude.{ℕ, Some, None, Ok, Err, vec_items, Option, Resul
 use Rattle.std.specs.declared.alloc.Global.{Global}
 use Rattle.network.specs.declared.lists.Streets.{Streets}
 use Rattle.network.specs.declared.refusals.Refusal.{Refusal}
+use Rattle.network.specs.declared.returned.Returned.{Returned}
 use Rattle.clock.specs.Faults.{table_fault}
+use Rattle.clock.specs.declared.faults.TableFault.{TableFault}
 use Rattle.clock.specs.Points.{table_refusal}
 use Rattle.clock.specs.Tables.{Tables}
 use Rattle.clock.specs.declared.roads.ClockRoads.{ClockRoads}
 use Rattle.clock.specs.declared.tables.ClockTables.{ClockTables}
-use Rattle.clock.specs.declared.tables.RefusedTables.{RefusedTables}
 
 abbrev pub table_lists : ClockTables → Tables
 table_lists t = record {
@@ -35,8 +36,8 @@ abbrev pub road_lists : ClockRoads → Tables
 road_lists r = held r.streets r.points r.departures r.arrivals
 
 -- a refusal, with the tables handed back
-abbrev pub handed_back : RefusedTables → Refusal × Tables
-handed_back r = (table_fault r.fault, table_lists r.tables)
+abbrev pub handed_back : Returned ClockTables TableFault → Refusal × Tables
+handed_back r = (table_fault r.fault, table_lists r.value)
 
 -- what examining answers: the tables, as roads where nothing refuses them
 abbrev pub answered : Tables → Option Refusal → Result Tables (Refusal × Tables)

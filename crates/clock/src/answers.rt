@@ -55,14 +55,11 @@ impl Network for ClockRoads {
     }
 
     fn start(&self, number: u32) -> Option<Seconds> {
-        if number > LAST_DEPARTURE {
-            return None;
-        }
-        Seconds::new(number)
+        Seconds::new(number).filter(|start| start.value() <= LAST_DEPARTURE)
     }
 
     fn less(&self, one: Seconds, other: Seconds) -> bool {
-        one.value() < other.value()
+        one < other
     }
 
     fn height(&self, reading: Seconds) -> u64 {
@@ -84,10 +81,6 @@ impl Guide for ClockRoads {
     ghost admissible = { roads_admissible };
 
     fn estimate(&self, junction: u32, reading: Seconds, _wanted: &SiteSet) -> Option<Seconds> {
-        if junction < self.streets.junctions() {
-            Some(reading)
-        } else {
-            None
-        }
+        (junction < self.streets.junctions()).then_some(reading)
     }
 }

@@ -6,11 +6,13 @@ ghost use Rattle.clock.specs.Model.{clock_carry};
 ghost use Rattle.clock.specs.Points.{Open};
 ghost use Rattle.std.specs.Option.{option_map};
 
+use crate::points::Points;
 use crate::roads::ClockRoads;
 use crate::seconds::{LAST_DEPARTURE, Seconds};
 use network::lower_bound;
 
 // On the straight line between (d, a) and (e, b), the fraction dropped.
+#[tactic(auto, using(crate::specs::Lines::share_le))]
 fn interpolate(d: u32, a: u32, e: u32, b: u32, t: u32) -> u32
     requires after { d ≤ t }
     requires before { t ≤ e }
@@ -22,22 +24,24 @@ fn interpolate(d: u32, a: u32, e: u32, b: u32, t: u32) -> u32
     a + share as u32
 }
 
-// By the first pair of the arc's points whose second departure is not before t; finding it takes O(log points) steps.
-fn enter(points: &[u32], departures: &[u32], arrivals: &[u32], arc: usize, t: u32) -> u32
-    requires open_arc { Open points.now departures.now arrivals.now arc }
-    requires early { t ≤ 86400 }
-    ensures { entered departures.now arrivals.now (slice_index points.now arc) (slice_index points.now (arc + 1) - slice_index points.now arc) t ≡ Some result }
-{
-    let first = points[arc] as usize;
-    let end = points[arc + 1] as usize;
-    let after = first + lower_bound(&departures[first..end], t).max(1);
-    interpolate(
-        departures[after - 1],
-        arrivals[after - 1],
-        departures[after],
-        arrivals[after],
-        t,
-    )
+impl Points<'_> {
+    // By the first pair of the arc's points whose second departure is not before t; finding it takes O(log points) steps.
+    fn enter(&self, arc: usize, t: u32) -> u32
+        requires open_arc { Open self.now.starts.now self.now.departures.now self.now.arrivals.now arc }
+        requires early { t ≤ 86400 }
+        ensures { entered self.now.departures.now self.now.arrivals.now (slice_index self.now.starts.now arc) (slice_index self.now.starts.now (arc + 1) - slice_index self.now.starts.now arc) t ≡ Some result }
+    {
+        let first = self.starts[arc] as usize;
+        let end = self.starts[arc + 1] as usize;
+        let after = first + lower_bound(&self.departures[first..end], t).max(1);
+        interpolate(
+            self.departures[after - 1],
+            self.arrivals[after - 1],
+            self.departures[after],
+            self.arrivals[after],
+            t,
+        )
+    }
 }
 
 impl ClockRoads {
@@ -49,12 +53,11 @@ impl ClockRoads {
         if arc as usize >= self.streets.heads.len() || t > LAST_DEPARTURE {
             return None;
         }
-        Seconds::new(enter(
-            self.points.as_slice(),
-            self.departures.as_slice(),
-            self.arrivals.as_slice(),
-            arc as usize,
-            t,
-        ))
+        let points = Points {
+            starts: &self.points,
+            departures: &self.departures,
+            arrivals: &self.arrivals,
+        };
+        Seconds::new(points.enter(arc as usize, t))
     }
 }

@@ -3,10 +3,10 @@ ghost use Rattle.std.specs.Prelude.{◌≡◌};
 ghost use Rattle.clock.specs.Faults.{table_fault};
 ghost use Rattle.clock.specs.declared.faults.TableFault.TheVariants.{Streets};
 
-use network::{Fault, Places, Refusal, StreetFault};
+use network::{Places, Refusal, StreetFault};
 
 // An arc, and a place in the point lists.
-#[derive(Clone, Copy)]
+#[derive(Clone, Copy, PartialEq, Eq, Debug)]
 pub enum TableFault {
     Streets(StreetFault),
     PointStarts,
@@ -15,34 +15,31 @@ pub enum TableFault {
     Falls { arc: u32, place: u32 },
 }
 
-impl Fault for TableFault {
-    ghost meaning = { table_fault };
+impl From<TableFault> for Refusal {
+    ghost from_gives = { λ fault said. said ≡ table_fault fault };
 
-    fn refusal(&self) -> Refusal {
-        match self {
-            TableFault::Streets(fault) => fault.refusal(),
-            TableFault::PointStarts => Refusal {
-                number: 4,
-                places: Places::Call,
-            },
+    fn from(fault: TableFault) -> Refusal {
+        match fault {
+            TableFault::Streets(fault) => Refusal::from(fault),
+            TableFault::PointStarts => Refusal::of_call(4),
             TableFault::Departure { arc, place } => Refusal {
                 number: 5,
-                places: Places::Two(*arc, *place),
+                places: Places::Two(arc, place),
             },
             TableFault::Arrival { arc, place } => Refusal {
                 number: 6,
-                places: Places::Two(*arc, *place),
+                places: Places::Two(arc, place),
             },
             TableFault::Falls { arc, place } => Refusal {
                 number: 7,
-                places: Places::Two(*arc, *place),
+                places: Places::Two(arc, place),
             },
         }
     }
 }
 
 impl From<StreetFault> for TableFault {
-    ghost from_gives = { λ e r. r ≡ Streets e };
+    ghost from_gives = { λ street fault. fault ≡ Streets street };
 
     fn from(fault: StreetFault) -> TableFault {
         TableFault::Streets(fault)

@@ -2,6 +2,7 @@
 #![tactic(auto)]
 
 mod answers;
+mod arc_points;
 mod carrying;
 mod examining;
 mod faults;
@@ -14,4 +15,4 @@ mod tables;
 pub use faults::TableFault;
 pub use roads::ClockRoads;
 pub use seconds::Seconds;
-pub use tables::{ClockTables, RefusedTables};
+pub use tables::ClockTables;

@@ -8,7 +8,7 @@ pub(crate) const LAST_DEPARTURE: u32 = 86_400;
 
 pub(crate) const LAST_ARRIVAL: u32 = 172_800;
 
-#[derive(Clone, Copy)]
+#[derive(Clone, Copy, PartialEq, Eq, PartialOrd, Ord, Debug)]
 pub struct Seconds {
     value: u32,
     ghost within: { value ≤ 172800 },

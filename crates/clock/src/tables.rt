@@ -1,6 +1,4 @@
 // Raw clock tables, as they are read: nothing is known of them yet.
-use crate::faults::TableFault;
-
 #[derive(Drop)]
 pub struct ClockTables {
     // where each junction's arcs start, and one more
@@ -14,11 +12,4 @@ pub struct ClockTables {
     pub arrivals: Vec<u32>,
     // each site's junction
     pub sites: Vec<u32>,
-}
-
-// Tables that were refused come back as they were.
-#[derive(Drop)]
-pub struct RefusedTables {
-    pub fault: TableFault,
-    pub tables: ClockTables,
 }

@@ -5,28 +5,32 @@ use Rattle.std.proofs.lemmas.List.{append-nil, at_drop_more, at_drop_all, map_pu
 use Rattle.network.specs.Model.{Roads}
 use Rattle.console.specs.Drives.{shown, driven}
 
-module _ {R : Type 0} (height : R → ℕ) (m : Roads) (arcs : List ℕ) where
-  -- what is shown so far, and what the arcs from i on will show
-  abbrev pub left : List (Option R) → R → ℕ → List (Option ℕ)
-  left so_far r i = map (option_map height) so_far ++ driven m (height r) (drop i arcs)
+-- xs is what was shown of the first i arcs, and r the reading after them
+pub record Sofar {R : Type 0} (height : R → ℕ) (m : Roads) (start : R) (arcs : List ℕ) (xs : List (Option R)) (r : R) (i : ℕ) : Type 0 where
+  pub so : map (option_map height) xs ++ driven m (height r) (drop i arcs) ≡ driven m (height start) arcs
 
-  next : (r : R) (i a : ℕ) (o : Option R) → i < length arcs → a ≡ get_or arcs i 0 → option_map height o ≡ m.carry a (height r) → driven m (height r) (drop i arcs) ≡ shown (option_map height o) (λ q. driven m q (drop (i + 1) arcs))
-  next r i a o l e f =
-      at_drop_more (driven m (height r)) arcs i 0 l ∙ ap (λ b. shown (m.carry b (height r)) (λ q. driven m q (drop (i + 1) arcs))) (sym e) ∙ ap (λ p. shown p (λ q. driven m q (drop (i + 1) arcs))) (sym f)
+module _ {R : Type 0} {height : R → ℕ} {m : Roads} {start : R} {arcs : List ℕ} {xs : List (Option R)} {r : R} {i : ℕ} (so_far : Sofar height m start arcs xs r i) where
+  -- o is what is shown of the next arc
+  module _ (ys : List (Option R)) (o : Option R) (lt : i < length arcs) (here : option_map height o ≡ m.carry (get_or arcs i 0) (height r)) (pushed : ys ≡ xs ++ o ∷ []) where
+    shown_next : map (option_map height) xs ++ shown (option_map height o) (λ k. driven m k (drop (i + 1) arcs)) ≡ driven m (height start) arcs
+    shown_next =
+        ap (λ p. map (option_map height) xs ++ shown p (λ k. driven m k (drop (i + 1) arcs))) here
+        ∙ ap (λ p. map (option_map height) xs ++ p) (sym (at_drop_more (driven m (height r)) arcs i 0 lt))
+        ∙ so_far.so
 
-  pushed : (xs : List (Option R)) (o : Option R) (rest : List (Option ℕ)) → map (option_map height) (xs ++ o ∷ []) ++ rest ≡ map (option_map height) xs ++ (option_map height o ∷ rest)
-  pushed xs o rest = ap (λ ys. ys ++ rest) (map_push (option_map height) xs o) ∙ append_assoc (map (option_map height) xs) (option_map height o ∷ []) rest
+    shown_so_far : map (option_map height) ys ≡ map (option_map height) xs ++ option_map height o ∷ []
+    shown_so_far = ap (map (option_map height)) pushed ∙ map_push (option_map height) xs o
 
-  -- an arc that carries
-  pub left_more : (xs : List (Option R)) (r q : R) (i a : ℕ) (o : Option R) → i < length arcs → a ≡ get_or arcs i 0 → option_map height o ≡ m.carry a (height r) → o ≡ Some q → left (xs ++ o ∷ []) q (i + 1) ≡ left xs r i
-  left_more xs r q i a o l e f s =
-      pushed xs o (driven m (height q) (drop (i + 1) arcs))
-      ∙ ap (λ p. map (option_map height) xs ++ p) (ap (λ p. option_map height p ∷ driven m (height q) (drop (i + 1) arcs)) s ∙ ap (λ p. shown (option_map height p) (λ k. driven m k (drop (i + 1) arcs))) (sym s) ∙ sym (next r i a o l e f))
+    pub further : (q : R) → o ≡ Some q → Sofar height m start arcs ys q (i + 1)
+    further q e = record {
+      so =
+          ap (λ p. p ++ driven m (height q) (drop (i + 1) arcs)) shown_so_far
+          ∙ append_assoc (map (option_map height) xs) (option_map height o ∷ []) (driven m (height q) (drop (i + 1) arcs))
+          ∙ rw e (rw e at shown_next);
+    }
 
-  -- an arc that does not, and the end
-  pub left_none : (xs : List (Option R)) (r : R) (i a : ℕ) (o : Option R) → i < length arcs → a ≡ get_or arcs i 0 → option_map height o ≡ m.carry a (height r) → o ≡ None → map (option_map height) (xs ++ o ∷ []) ≡ left xs r i
-  left_none xs r i a o l e f s =
-      map_push (option_map height) xs o ∙ ap (λ p. map (option_map height) xs ++ p) (ap (λ p. option_map height p ∷ []) s ∙ ap (λ p. shown (option_map height p) (λ k. driven m k (drop (i + 1) arcs))) (sym s) ∙ sym (next r i a o l e f))
+    pub stops : o ≡ None → map (option_map height) ys ≡ driven m (height start) arcs
+    stops e = shown_so_far ∙ rw e (rw e at shown_next)
 
-  pub left_all : (xs : List (Option R)) (r : R) (i : ℕ) → length arcs ≤ i → left xs r i ≡ map (option_map height) xs
-  left_all xs r i l = ap (λ p. map (option_map height) xs ++ p) (at_drop_all (driven m (height r)) arcs i l) ∙ append-nil (map (option_map height) xs)
+  pub ends : length arcs ≤ i → map (option_map height) xs ≡ driven m (height start) arcs
+  ends le = sym (append-nil _) ∙ ap (λ p. map (option_map height) xs ++ p) (sym (at_drop_all (driven m (height r)) arcs i le)) ∙ so_far.so

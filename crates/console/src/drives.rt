@@ -35,10 +35,7 @@ pub fn drive<N: Network>(
 pub fn start_of<N: Network>(network: &N, number: u32) -> Result<N::Reading, StartFault>
     ensures { results.result_map_both (N.Network.height network.now) (λ _. start_fault) result ≡ ok_or ((N.Network.roads network.now).start number) start_fault }
 {
-    match network.start(number) {
-        Some(reading) => Ok(reading),
-        None => Err(StartFault),
-    }
+    network.start(number).ok_or(StartFault)
 }
 
 // An impossible reading is carried to nothing.
@@ -49,8 +46,5 @@ pub fn carry_from<N: Network>(
 ) -> Option<N::Reading>
     ensures { option_map (N.Network.height network.now) result ≡ onward (option_map (N.Network.height network.now) reading) ((N.Network.roads network.now).carry arc) }
 {
-    match reading {
-        Some(entering) => network.carry(arc, entering),
-        None => None,
-    }
+    network.carry(arc, reading?)
 }

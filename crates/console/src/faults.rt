@@ -1,19 +1,17 @@
 // Why a drive does not start.
+ghost use Rattle.std.specs.Prelude.{◌≡◌};
 ghost use Rattle.console.specs.Drives.{start_fault};
 
-use network::{Fault, Places, Refusal};
+use network::Refusal;
 
 // The number has no start reading.
-#[derive(Clone, Copy)]
+#[derive(Clone, Copy, Debug, PartialEq, Eq)]
 pub struct StartFault;
 
-impl Fault for StartFault {
-    ghost meaning = { λ _. start_fault };
+impl From<StartFault> for Refusal {
+    ghost from_gives = { λ _ r. r ≡ start_fault };
 
-    fn refusal(&self) -> Refusal {
-        Refusal {
-            number: 15,
-            places: Places::Call,
-        }
+    fn from(_fault: StartFault) -> Refusal {
+        Refusal::of_call(15)
     }
 }

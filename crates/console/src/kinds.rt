@@ -1,32 +1,47 @@
 // The kinds of roads that a depot has, by their names.
-ghost use Rattle.std.specs.Prelude.{◌≡◌};
+ghost use Rattle.std.specs.Prelude.{◌≡◌, Some};
 ghost use Rattle.console.specs.Verbs.{kind_name, kinds};
-ghost use Rattle.depot.specs.Named.{find_named};
 
-use depot::{Named, find_named};
+use depot::{Listed, Named};
+use std::fmt;
 
-#[derive(Clone, Copy)]
+#[derive(Clone, Copy, Debug, PartialEq, Eq)]
 pub enum Kind {
     Clock,
     Length,
 }
 
-const KINDS: [Kind; 2] = [Kind::Clock, Kind::Length];
+impl Kind {
+    fn as_str(self) -> &'static str
+        ensures { result.now ≡ kind_name self }
+    {
+        match self {
+            Kind::Clock => "clock",
+            Kind::Length => "length",
+        }
+    }
+}
 
 impl Named for Kind {
     ghost called = { kind_name };
 
     fn name(&self) -> &'static [u8] {
-        match self {
-            Kind::Clock => b"clock",
-            Kind::Length => b"length",
-        }
+        self.as_str().as_bytes()
     }
 }
 
-// The kind of this name.
-pub fn kind_of(name: &[u8]) -> Option<Kind>
-    ensures { result ≡ find_named kind_name kinds name.now }
-{
-    find_named(&KINDS, name)
+impl Listed for Kind {
+    ghost every = { kinds };
+
+    fn all() -> &'static [Kind] {
+        &[Kind::Clock, Kind::Length]
+    }
+}
+
+impl fmt::Display for Kind {
+    ghost output = { λ kind. Some (kind_name kind) };
+
+    fn fmt<W: fmt::Write>(&self, f: &mut fmt::Formatter<W>) -> fmt::Result {
+        f.write_str(self.as_str())
+    }
 }

@@ -9,6 +9,6 @@ mod verbs;
 
 pub use drives::{carry_from, drive, start_of};
 pub use faults::StartFault;
-pub use kinds::{Kind, kind_of};
+pub use kinds::Kind;
 pub use tables::{clock_tables, length_tables};
-pub use verbs::{Verb, verb_of};
+pub use verbs::Verb;

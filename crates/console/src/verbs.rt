@@ -1,11 +1,9 @@
 // The commands, by their names.
-ghost use Rattle.std.specs.Prelude.{◌≡◌};
-ghost use Rattle.depot.specs.Named.{find_named};
 ghost use Rattle.console.specs.Verbs.{verb_name, verbs};
 
-use depot::{Named, find_named};
+use depot::{Listed, Named};
 
-#[derive(Clone, Copy)]
+#[derive(Clone, Copy, Debug, PartialEq, Eq)]
 pub enum Verb {
     Carry,
     Drive,
@@ -15,16 +13,6 @@ pub enum Verb {
     Lift,
     Roads,
 }
-
-const VERBS: [Verb; 7] = [
-    Verb::Carry,
-    Verb::Drive,
-    Verb::Close,
-    Verb::Reopen,
-    Verb::Detour,
-    Verb::Lift,
-    Verb::Roads,
-];
 
 impl Named for Verb {
     ghost called = { verb_name };
@@ -42,9 +30,18 @@ impl Named for Verb {
     }
 }
 
-// The command of this name.
-pub fn verb_of(name: &[u8]) -> Option<Verb>
-    ensures { result ≡ find_named verb_name verbs name.now }
-{
-    find_named(&VERBS, name)
+impl Listed for Verb {
+    ghost every = { verbs };
+
+    fn all() -> &'static [Verb] {
+        &[
+            Verb::Carry,
+            Verb::Drive,
+            Verb::Close,
+            Verb::Reopen,
+            Verb::Detour,
+            Verb::Lift,
+            Verb::Roads,
+        ]
+    }
 }

@@ -1,9 +1,11 @@
 // Opens one depot file after another, and prints what each is answered as clock roads and as length roads.
 #![tactic(auto)]
 
-use console::{clock_tables, length_tables};
+use clock::ClockRoads;
+use console::{Kind, clock_tables, length_tables};
 use depot::{Depot, read_depot};
-use network::Fault;
+use length::LengthRoads;
+use network::{Refusal, Returned};
 use std::{env, fs};
 
 fn main(rt: HostRuntime) -> anyhow::Result<()> {
@@ -21,34 +23,34 @@ fn run(rt: &HostRuntime) -> anyhow::Result<()> {
 fn show(rt: &HostRuntime, path: &str) -> anyhow::Result<()> {
     let text = fs::read(rt, path)?;
     match read_depot(rt.alloc(), text.as_slice()) {
-        Ok(depot) => {
-            show_clock(rt, &depot)?;
-            show_length(rt, &depot)
-        }
-        Err(fault) => {
-            println!(rt; "{fault}")?;
-            Ok(())
-        }
+        Ok(depot) => show_opened(rt, &depot),
+        Err(fault) => Ok(println!(rt; "{fault}")?),
     }
 }
 
-fn show_clock(rt: &HostRuntime, depot: &Depot) -> anyhow::Result<()> {
-    match clock_tables(rt.alloc(), depot)?.examine() {
-        Ok(_roads) => print!(rt; "roads clock, ")?,
-        Err(refused) => {
-            let refusal = refused.fault.refusal();
-            print!(rt; "{refusal}, ")?;
-        }
-    }
+fn show_opened(rt: &HostRuntime, depot: &Depot) -> anyhow::Result<()> {
+    say(rt, Kind::Clock, ClockRoads::try_from(clock_tables(depot)?))?;
+    print!(rt; ", ")?;
+    say(
+        rt,
+        Kind::Length,
+        LengthRoads::try_from(length_tables(depot)?),
+    )?;
+    println!(rt)?;
     Ok(())
 }
 
-fn show_length(rt: &HostRuntime, depot: &Depot) -> anyhow::Result<()> {
-    match length_tables(rt.alloc(), depot)?.examine() {
-        Ok(_roads) => println!(rt; "roads length")?,
-        Err(refused) => {
-            let refusal = refused.fault.refusal();
-            println!(rt; "{refusal}")?;
+// The kind of the roads, or what they are refused by.
+fn say<R: Drop, T: Drop, F: Into<Refusal>>(
+    rt: &HostRuntime,
+    kind: Kind,
+    opened: Result<R, Returned<T, F>>,
+) -> anyhow::Result<()> {
+    match opened.err() {
+        None => print!(rt; "roads {kind}")?,
+        Some(returned) => {
+            let refusal: Refusal = returned.fault.into();
+            print!(rt; "{refusal}")?;
         }
     }
     Ok(())

@@ -1,44 +1,51 @@
 -- A part's numbers, gathered listing by listing. Assumes nothing.
-use Rattle.std.proofs.Common.{◌≡◌, ℕ, ◌+◌, ◌<◌, ◌≤◌, cond, List, [], ◌∷◌, ◌++◌, length, get_or, drop, Some, vec_items, sym, ap, ◌∙◌, append_assoc, arith}
-use Rattle.std.proofs.lemmas.List.{at_drop_more, at_drop_all}
+use Rattle.std.proofs.Common.{◌≡◌, ℕ, Bool, true, false, cond, not, eqb, List, [], ◌∷◌, ◌++◌, length, filter, Some, None, Option, MatchOption, Bor, vec_items, refl, ap, ◌∙◌, arith, ne_eqb}
+use Rattle.std.specs.List.{flat_map, find}
+use Rattle.std.specs.Option.{option_and_then, option_map}
 use Rattle.std.specs.Str.{bytes_eq}
 use Rattle.depot.specs.declared.listing.Listing.{Listing}
 use Rattle.depot.specs.declared.part.Part.{Part}
 use Rattle.depot.specs.Depots.{listed, first}
 use Rattle.depot.specs.Names.{name_of}
 use Rattle.depot.specs.Reads.{items}
-use Rattle.depot.proofs.Naming.{same_name, other_name}
 
--- the numbers of the part p in the listings from i on
-abbrev pub from : Part → List Listing → ℕ → List ℕ
-from p es i = listed (name_of p) (items (drop i es))
+-- the listing is of the part p
+abbrev pub of : Part → Listing → Bool
+of p e = bytes_eq (name_of e.part) (name_of p)
 
--- x is the listing at i
-module _ (es : List Listing) (i : ℕ) (x : Listing) (p : Part) (lt : i < length es) (is : x ≡ get_or es i x) where
-  abbrev own : Listing → List ℕ
-  own y = cond (bytes_eq (name_of y.part) (name_of p)) (vec_items y.numbers) []
+abbrev pub numbers : Listing → List ℕ
+numbers e = vec_items e.numbers
 
-  step : from p es i ≡ own x ++ from p es (i + 1)
-  step = at_drop_more (λ ys. listed (name_of p) (items ys)) es i x lt ∙ ap (λ y. own y ++ from p es (i + 1)) (sym is)
+pub listed_in : (p : Part) (es : List Listing) → flat_map numbers (filter (of p) es) ≡ listed (name_of p) (items es)
+listed_in p [] = refl
+listed_in p (e ∷ es) = by (of p e) refl (listed_in p es)
+  where
+    by : (t : Bool) → of p e ≡ t → flat_map numbers (filter (of p) es) ≡ listed (name_of p) (items es) → flat_map numbers (filter (of p) (e ∷ es)) ≡ listed (name_of p) (items (e ∷ es))
+    by true f rest = rw f (ap (λ ns. numbers e ++ ns) rest)
+    by false f rest = rw f rest
 
-  pub takes : x.part ≡ p → from p es i ≡ vec_items x.numbers ++ from p es (i + 1)
-  takes e = step ∙ ap (λ t. cond t (vec_items x.numbers) [] ++ from p es (i + 1)) (same_name x.part p e)
+-- the listing has a number
+abbrev pub filled : Listing → Bool
+filled e = not (eqb (length (numbers e)) 0)
 
-  pub skips : (x.part ≡ p → ⊥) → from p es i ≡ from p es (i + 1)
-  skips ne = step ∙ ap (λ t. cond t (vec_items x.numbers) [] ++ from p es (i + 1)) (other_name x.part p ne)
+-- e has the numbers ns, and comes before what is found in its place where they are none
+before_found : (f : Listing → Option ℕ) (e : Listing) (ns rest : List ℕ) (found : Option Listing) → f e ≡ first ns → option_and_then f found ≡ first rest → option_and_then f (cond (not (eqb (length ns) 0)) (Some e) found) ≡ first (ns ++ rest)
+before_found f e [] rest found own later = later
+before_found f e (n ∷ ns) rest found own later =
+    let some : eqb (length (n ∷ ns)) 0 ≡ false = ne_eqb _ _ (λ z. omega arith) in
+    rw some own
 
--- no listing is left
-pub all_seen : (p : Part) (es : List Listing) (i : ℕ) → length es ≤ i → from p es i ≡ []
-all_seen p es i le = at_drop_all (λ ys. listed (name_of p) (items ys)) es i le
+in_list : (es : List Listing) → option_and_then (λ e. first (numbers e)) (find filled es) ≡ first (flat_map numbers es)
+in_list [] = refl
+in_list (e ∷ es) = before_found (λ x. first (numbers x)) e (numbers e) (flat_map numbers es) (find filled es) refl (in_list es)
 
-pub first_is : (ns ls : List ℕ) (n : ℕ) → 0 < length ns → n ≡ get_or ns 0 n → Some n ≡ first (ns ++ ls)
-first_is [] ls n lt e = absurd (omega arith)
-first_is (m ∷ ns) ls n lt e = ap Some e
+pub first_in : (p : Part) (es : List Listing) → option_and_then (λ e. first (numbers e)) (find filled (filter (of p) es)) ≡ first (listed (name_of p) (items es))
+first_in p es = in_list (filter (of p) es) ∙ ap first (listed_in p es)
 
--- the numbers so far, with those of one listing more
-pub joined_on : (xs ns ys l m all : List ℕ) → xs ++ l ≡ all → l ≡ ns ++ m → ys ≡ xs ++ ns → ys ++ m ≡ all
-joined_on xs ns ys l m all h e more = ap (λ zs. zs ++ m) more ∙ append_assoc xs ns m ∙ ap (λ zs. xs ++ zs) (sym e) ∙ h
+pub and_then_is : {T : Type 0} (f : T → Option ℕ) (P : T → Type 0) (o : Option T) (r : Option ℕ) → MatchOption o (r ≡ None) P → ((x : T) → P x → r ≡ f x) → r ≡ option_and_then f o
+and_then_is f P None r h k = h
+and_then_is f P (Some x) r h k = k x h
 
--- the numbers so far, past a listing of another part
-pub kept_on : (xs ys l m all : List ℕ) → xs ++ l ≡ all → l ≡ m → ys ≡ xs → ys ++ m ≡ all
-kept_on xs ys l m all h e same = ap (λ zs. zs ++ m) same ∙ ap (λ zs. xs ++ zs) (sym e) ∙ h
+pub now_and_then : {T : Type 0} (f : T → Option ℕ) (o : Option (Bor T)) → option_and_then (λ x. f x.now) o ≡ option_and_then f (option_map (λ x. x.now) o)
+now_and_then f None = refl
+now_and_then f (Some x) = refl

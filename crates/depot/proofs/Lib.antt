@@ -2,7 +2,5 @@ pub mod Cutting
 pub mod Gathering
 pub mod Lining
 pub mod Lists
-pub mod Lookup
 pub mod Naming
 pub mod Numerals
-pub mod Scans

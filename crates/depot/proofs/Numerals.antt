@@ -1,32 +1,15 @@
 -- A number read digit by digit. Assumes nothing.
-use Rattle.std.proofs.Common.{◌≡◌, ℕ, ◌+◌, ◌-◌, ◌*◌, ◌^◌, ◌<◌, ◌≤◌, true, false, not, ◌&&◌, eqb, ltb, List, map, length, get_or, drop, Ok, Err, sym, ap, ◌∙◌, arith}
-use mathlib.Core.Bool.{and-true}
+use Rattle.std.proofs.Common.{◌≡◌, ℕ, ◌+◌, ◌-◌, ◌*◌, ◌^◌, ◌<◌, ◌≤◌, true, ◌&&◌, List, map, length, get_or, drop, Ok, Err, sym, ap, ◌∙◌, arith}
 use Rattle.std.specs.Int.Digits.{number_from_digits_after}
 use Rattle.std.proofs.lemmas.Int.Digits.{number_after_ge}
 use Rattle.std.proofs.lemmas.List.{at_drop_more, at_drop_all}
-use Rattle.std.proofs.lemmas.Bool.Decides.{nat_tests}
-use Rattle.std.proofs.lemmas.Bool.{and_parts, and_right, leb-true, cond-true, cond-false, lt-ltb, le-ltb}
+use Rattle.std.proofs.lemmas.Bool.{and_parts, leb-true, cond-true, cond-false, lt-ltb, le-ltb}
 use Rattle.depot.specs.declared.fault.What.TheVariants.{TooLarge}
 use Rattle.depot.specs.Numbers.{digit, digits, whole, value, number_of}
 
 -- what is left of a word from i on begins with the byte at i
-pub digits_more : (bs : List ℕ) (i : ℕ) → i < length bs → digits (drop i bs) ≡ (digit (get_or bs i 0) && digits (drop (i + 1) bs))
+digits_more : (bs : List ℕ) (i : ℕ) → i < length bs → digits (drop i bs) ≡ (digit (get_or bs i 0) && digits (drop (i + 1) bs))
 digits_more bs i lt = at_drop_more digits bs i 0 lt
-
-pub digit_off : (bs : List ℕ) (i : ℕ) → digits (drop i bs) ≡ digits bs → i < length bs → true ≡ digit (get_or bs i 0) → digits (drop (i + 1) bs) ≡ digits bs
-digit_off bs i h lt e = ap (λ t. t && digits (drop (i + 1) bs)) e ∙ sym (digits_more bs i lt) ∙ h
-
-pub not_whole : (bs : List ℕ) (i : ℕ) → digits (drop i bs) ≡ digits bs → i < length bs → false ≡ digit (get_or bs i 0) → false ≡ whole bs
-not_whole bs i h lt e =
-    sym (and_right _ _ (sym h ∙ digits_more bs i lt ∙ ap (λ t. t && digits (drop (i + 1) bs)) (sym e)))
-
-some_bytes : (n : ℕ) → not (eqb n 0) ≡ ltb 0 n
-some_bytes n = grind (arith, nat_tests)
-
-pub all_digits : (bs : List ℕ) (i : ℕ) → digits (drop i bs) ≡ digits bs → length bs ≤ i → not (eqb (length bs) 0) ≡ whole bs
-all_digits bs i h le =
-    let all : digits bs ≡ true = sym h ∙ at_drop_all digits bs i le in
-    some_bytes (length bs) ∙ sym (and-true (ltb 0 (length bs))) ∙ ap (λ t. ltb 0 (length bs) && t) (sym all)
 
 -- v is the number that the first i bytes write, and the others are digits
 pub record Sofar (word : List ℕ) (i v : ℕ) : Type 0 where

@@ -1,11 +1,6 @@
 -- How a text is cut into lines, and a line into words.
 use Rattle.std.specs.Prelude.{ℕ, Bool, cond, not, ◌||◌, List, [], ◌∷◌, take, ◌==◌}
-use Rattle.std.specs.List.{prefix_len}
-
--- the byte b put in front of the first of some lists
-abbrev pub onto_first : ℕ → List (List ℕ) → List (List ℕ)
-onto_first b [] = (b ∷ []) ∷ []
-onto_first b (w ∷ ws) = (b ∷ w) ∷ ws
+use Rattle.std.specs.List.{prefix_len, onto_first}
 
 -- the lines of a text: a newline ends a line, and a last line may do without
 abbrev pub lines : List ℕ → List (List ℕ)

@@ -1,5 +1,6 @@
 -- What the text of a depot file says.
-use Rattle.std.specs.Prelude.{ℕ, ◌+◌, cond, List, [], ◌∷◌, ◌++◌, drop, Some, None, Ok, Err, Option, Result}
+use Rattle.std.specs.Prelude.{ℕ, ◌+◌, cond, List, [], ◌∷◌, ◌++◌, drop, Ok, Err, Option, Result}
+use Rattle.std.specs.List.{slice_get}
 use Rattle.std.specs.Option.{unwrap_or}
 use Rattle.std.specs.Str.{bytes_eq}
 use Rattle.depot.specs.declared.fault.What.{What}
@@ -68,8 +69,7 @@ pub record Lists : Type 0 where
 
 -- the first of some numbers
 abbrev pub first : List ℕ → Option ℕ
-first [] = None
-first (n ∷ ns) = Some n
+first ns = slice_get ns 0
 
 -- what the items list under each name: no number at all is the empty list, and 0 for a part that is one number
 abbrev pub lists_of : List Item → Lists

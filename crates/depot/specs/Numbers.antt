@@ -1,5 +1,6 @@
 -- Which number a word writes.
-use Rattle.std.specs.Prelude.{ℕ, ◌-◌, ◌^◌, Bool, true, cond, ◌&&◌, List, [], ◌∷◌, map, length, Ok, Err, Result, nat_le, nat_lt}
+use Rattle.std.specs.Prelude.{ℕ, ◌-◌, ◌^◌, Bool, cond, ◌&&◌, List, map, length, Ok, Err, Result, nat_le, nat_lt}
+use Rattle.std.specs.List.{list_all}
 use Rattle.std.specs.Int.Digits.{number_from_digits}
 use Rattle.depot.specs.declared.fault.What.{What}
 use Rattle.depot.specs.declared.fault.What.TheVariants.{NotANumber, TooLarge}
@@ -10,8 +11,7 @@ digit b = nat_le 48 b && nat_le b 57
 
 -- each byte is a digit
 abbrev pub digits : List ℕ → Bool
-digits [] = true
-digits (b ∷ bs) = digit b && digits bs
+digits word = list_all digit word
 
 -- one or more digits
 abbrev pub whole : List ℕ → Bool

@@ -1,13 +1,14 @@
 -- What the results of reading a depot file say, by the items of their vectors.
-use Rattle.std.specs.Prelude.{◌≡◌, ℕ, List, map, Ok, Err, vec_items, Result}
+use Rattle.std.specs.Prelude.{ℕ, List, map, vec_items, Result}
 use Rattle.depot.specs.declared.depots.Depot.{Depot}
-use Rattle.depot.specs.declared.fault.EntryFault.{EntryFault}
-use Rattle.depot.specs.declared.fault.EntryFault.TheVariants as entry_fault
-use Rattle.depot.specs.declared.fault.ReadFault.{ReadFault}
-use Rattle.depot.specs.declared.fault.ReadFault.TheVariants.{Memory, Line}
+use Rattle.depot.specs.declared.fault.WordFault.{WordFault}
+use Rattle.depot.specs.declared.fault.LineFault.{LineFault}
+use Rattle.depot.specs.declared.fault.TextFault.{TextFault}
+use Rattle.depot.specs.declared.fault.TextFault.TheVariants as fault
 use Rattle.depot.specs.declared.listing.Listing.{Listing}
 use Rattle.depot.specs.Depots.{Item, Fault, Lists}
 use Rattle.depot.specs.Names.{name_of}
+use Rattle.depot.specs.Says.{Tells}
 
 -- a listing's name and numbers
 abbrev pub item : Listing → Item
@@ -33,13 +34,15 @@ seen d = record {
   board = d.board;
 }
 
+-- the line of a fault, its word and what is wrong with it
+abbrev pub blamed : LineFault → Fault
+blamed f = (f.line, vec_items f.fault.word, f.fault.what)
+
 -- r says m, where f tells what a value says; of want of memory nothing more is said
-abbrev pub Reads : {T X : Type 0} → (T → X) → Result T ReadFault → Result X Fault → Type 0
-Reads f (Ok x) m = m ≡ Ok (f x)
-Reads f (Err Memory) m = Unit {0}
-Reads f (Err (Line n w what)) m = m ≡ Err (n, vec_items w, what)
+abbrev pub Reads : {T X : Type 0} → (T → X) → Result T (TextFault LineFault) → Result X Fault → Type 0
+Reads f r m = Tells f blamed r m
 
 -- the fault of a word, put at a line
-abbrev pub at_line : ℕ → EntryFault → ReadFault
-at_line n entry_fault.Memory = Memory
-at_line n (entry_fault.Word w what) = Line n w what
+abbrev pub at_line : ℕ → TextFault WordFault → TextFault LineFault
+at_line n fault.Memory = fault.Memory
+at_line n (fault.Wrong f) = fault.Wrong (record { line = n; fault = f })

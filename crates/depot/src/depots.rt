@@ -5,7 +5,7 @@ ghost use Rattle.depot.specs.Reads.{items, seen, Reads};
 
 use crate::fault::ReadFault;
 use crate::line::read_lines;
-use crate::listing::{Listing, first_number, numbers_of};
+use crate::listing::Listings;
 use crate::part::Part;
 use std::alloc::{AllocError, Global};
 
@@ -25,29 +25,30 @@ pub struct Depot {
     pub board: u32,
 }
 
-// Puts the numbers of each part together.
-fn gather(heap: Global, listings: &[Listing]) -> Result<Depot, AllocError>
-    ensures { IfOk result (λ d. seen d ≡ lists_of (items listings.now)) }
-{
-    Ok(Depot {
-        arc_starts: numbers_of(heap, listings, Part::ArcStarts)?,
-        heads: numbers_of(heap, listings, Part::Heads)?,
-        point_starts: numbers_of(heap, listings, Part::PointStarts)?,
-        departures: numbers_of(heap, listings, Part::Departures)?,
-        arrivals: numbers_of(heap, listings, Part::Arrivals)?,
-        sites: numbers_of(heap, listings, Part::Sites)?,
-        metres: numbers_of(heap, listings, Part::Metres)?,
-        segments: numbers_of(heap, listings, Part::Segments)?,
-        nearest: first_number(listings, Part::Nearest).unwrap_or(0),
-        bays: numbers_of(heap, listings, Part::Bays)?,
-        board: first_number(listings, Part::Board).unwrap_or(0),
-    })
+impl Listings {
+    // Puts the numbers of each part together.
+    fn gather(&self) -> Result<Depot, AllocError>
+        ensures { IfOk result (λ d. seen d ≡ lists_of (items self.now.lines.items)) }
+    {
+        Ok(Depot {
+            arc_starts: self.numbers_of(Part::ArcStarts)?,
+            heads: self.numbers_of(Part::Heads)?,
+            point_starts: self.numbers_of(Part::PointStarts)?,
+            departures: self.numbers_of(Part::Departures)?,
+            arrivals: self.numbers_of(Part::Arrivals)?,
+            sites: self.numbers_of(Part::Sites)?,
+            metres: self.numbers_of(Part::Metres)?,
+            segments: self.numbers_of(Part::Segments)?,
+            nearest: self.first_number(Part::Nearest).unwrap_or(0),
+            bays: self.numbers_of(Part::Bays)?,
+            board: self.first_number(Part::Board).unwrap_or(0),
+        })
+    }
 }
 
 // The depot that a text says, or the first line that cannot be read.
 pub fn read_depot(heap: Global, text: &[u8]) -> Result<Depot, ReadFault>
     ensures { Reads seen result (depot_of text.now) }
 {
-    let listings = read_lines(heap, text)?;
-    Ok(gather(heap, listings.as_slice())?)
+    Ok(read_lines(heap, text)?.gather()?)
 }

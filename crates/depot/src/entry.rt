@@ -23,10 +23,7 @@ pub(crate) fn read_numbers(heap: Global, bytes: &[u8]) -> Result<Vec<u32>, Entry
     let mut found = Vec::new(heap);
     let mut left = bytes;
     while let Some((word, rest)) = first_word(left) {
-        match read_number(word) {
-            Ok(n) => found.push(n)?,
-            Err(what) => return Err(blame(heap, word, what)),
-        }
+        found.push(read_number(word).map_err(|what| blame(heap, word, what))?)?;
         left = rest;
     }
     Ok(found)

@@ -1,14 +1,13 @@
 // What can be wrong in a text.
 ghost use Rattle.std.specs.Prelude.{◌≡◌};
-ghost use Rattle.depot.specs.declared.fault.EntryFault.TheVariants as entry_fault;
-ghost use Rattle.depot.specs.declared.fault.ReadFault.TheVariants as read_fault;
+ghost use Rattle.depot.specs.declared.fault.TextFault.TheVariants.{Memory};
 ghost use Rattle.depot.specs.Reads.{at_line};
 ghost use Rattle.depot.specs.Says.{Blames};
 
 use std::alloc::{AllocError, AllocFailed, Global};
 
 // What is wrong with a word.
-#[derive(Clone, Copy, Debug, PartialEq)]
+#[derive(Clone, Copy, Debug, PartialEq, Eq)]
 pub enum What {
     NotANumber,
     TooLarge,
@@ -16,53 +15,45 @@ pub enum What {
     SecondNumber,
 }
 
+#[derive(Debug, Drop)]
+pub struct WordFault {
+    pub word: Vec<u8>,
+    pub what: What,
+}
+
+// Lines count from 1.
+#[derive(Debug, Drop)]
+pub struct LineFault {
+    pub line: usize,
+    pub fault: WordFault,
+}
+
+// Why a text cannot be read: want of memory, or what is wrong in it.
+#[derive(Debug, Drop)]
+pub enum TextFault<W> {
+    Memory,
+    Wrong(W),
+}
+
 // Why a line cannot be read.
-#[derive(Debug, Drop)]
-pub enum EntryFault {
-    Memory,
-    Word { word: Vec<u8>, what: What },
-}
+pub type EntryFault = TextFault<WordFault>;
 
-impl From<AllocError> for EntryFault {
-    ghost from_gives = { λ _ r. r ≡ entry_fault.Memory };
+// Why the text of a depot cannot be read.
+pub type ReadFault = TextFault<LineFault>;
 
-    fn from(_e: AllocError) -> EntryFault {
-        EntryFault::Memory
+impl<W> From<AllocError> for TextFault<W> {
+    ghost from_gives = { λ _ r. r ≡ Memory };
+
+    fn from(_e: AllocError) -> TextFault<W> {
+        TextFault::Memory
     }
 }
 
-impl<T: Drop> From<AllocFailed<T>> for EntryFault {
-    ghost from_gives = { λ _ r. r ≡ entry_fault.Memory };
+impl<W, T: Drop> From<AllocFailed<T>> for TextFault<W> {
+    ghost from_gives = { λ _ r. r ≡ Memory };
 
-    fn from(_e: AllocFailed<T>) -> EntryFault {
-        EntryFault::Memory
-    }
-}
-
-// Why a text cannot be read. Lines count from 1.
-#[derive(Debug, Drop)]
-pub enum ReadFault {
-    Memory,
-    Line {
-        line: usize,
-        word: Vec<u8>,
-        what: What,
-    },
-}
-
-impl From<AllocError> for ReadFault {
-    ghost from_gives = { λ _ r. r ≡ read_fault.Memory };
-
-    fn from(_e: AllocError) -> ReadFault {
-        ReadFault::Memory
-    }
-}
-
-impl<T: Drop> From<AllocFailed<T>> for ReadFault {
-    ghost from_gives = { λ _ r. r ≡ read_fault.Memory };
-
-    fn from(_e: AllocFailed<T>) -> ReadFault {
-        ReadFault::Memory
+    fn from(_e: AllocFailed<T>) -> TextFault<W> {
+        TextFault::Memory
     }
 }
 
@@ -70,18 +61,19 @@ impl<T: Drop> From<AllocFailed<T>> for ReadFault {
 pub(crate) fn blame(heap: Global, word: &[u8], what: What) -> EntryFault
     ensures { Blames result word.now what }
 {
-    match Vec::from_slice(heap, word) {
-        Ok(word) => EntryFault::Word { word, what },
-        Err(_) => EntryFault::Memory,
-    }
+    Vec::from_slice(heap, word).map_or(TextFault::Memory, |word| {
+        TextFault::Wrong(WordFault { word, what })
+    })
 }
 
-// The fault of a word, in the line of this number.
-pub(crate) fn at_line(line: usize, fault: EntryFault) -> ReadFault
-    ensures { result ≡ at_line line fault }
-{
-    match fault {
-        EntryFault::Memory => ReadFault::Memory,
-        EntryFault::Word { word, what } => ReadFault::Line { line, word, what },
+impl EntryFault {
+    // The same, in the line of this number.
+    pub(crate) fn at_line(self, line: usize) -> ReadFault
+        ensures { result ≡ at_line line self }
+    {
+        match self {
+            TextFault::Memory => TextFault::Memory,
+            TextFault::Wrong(fault) => TextFault::Wrong(LineFault { line, fault }),
+        }
     }
 }

@@ -14,5 +14,5 @@ mod part;
 
 pub use depots::{Depot, read_depot};
 pub use entry::{Entry, read_entry, split_name};
-pub use fault::{EntryFault, ReadFault, What};
-pub use named::{Named, find_named};
+pub use fault::{EntryFault, LineFault, ReadFault, TextFault, What, WordFault};
+pub use named::{Listed, Named, by_name, find_named};

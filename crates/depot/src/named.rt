@@ -9,13 +9,23 @@ pub trait Named: Copy {
         ensures { result.now ≡ called self.now };
 }
 
+// Things that can all be listed.
+pub trait Listed: Named + 'static {
+    ghost every: { List Self };
+
+    fn all() -> &'static [Self]
+        ensures { result.now ≡ every };
+}
+
 pub fn find_named<T: Named>(all: &[T], name: &[u8]) -> Option<T>
     ensures { result ≡ find_named T.Named.called all.now name.now }
 {
-    for one in all {
-        if name == one.name() {
-            return Some(*one);
-        }
-    }
-    None
+    all.iter().find(|one| one.name() == name).copied()
+}
+
+// The same, among all that there are.
+pub fn by_name<T: Listed>(name: &[u8]) -> Option<T>
+    ensures { result ≡ find_named T.Named.called T.Listed.every name.now }
+{
+    find_named(T::all(), name)
 }

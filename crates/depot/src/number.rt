@@ -1,25 +1,14 @@
 // Reads a word as a whole number.
 ghost use Rattle.std.specs.Prelude.{◌≡◌};
-ghost use Rattle.depot.specs.Numbers.{whole, digit, number_of};
+ghost use Rattle.depot.specs.Numbers.{whole, number_of};
 
 use crate::fault::What;
-
-fn is_digit(byte: u8) -> bool
-    ensures { result ≡ digit byte }
-{
-    b'0' <= byte && byte <= b'9'
-}
 
 // Whether the word is one or more digits.
 fn is_whole(word: &[u8]) -> bool
     ensures { result ≡ whole word.now }
 {
-    for byte in word {
-        if !is_digit(*byte) {
-            return false;
-        }
-    }
-    !word.is_empty()
+    !word.is_empty() && word.iter().all(|b| b.is_ascii_digit())
 }
 
 // Leading zeros are allowed.
@@ -29,12 +18,13 @@ pub(crate) fn read_number(word: &[u8]) -> Result<u32, What>
     if !is_whole(word) {
         return Err(What::NotANumber);
     }
-    let mut value = 0u64;
+    let mut value = 0u32;
     for byte in word {
-        value = value * 10 + (*byte - b'0') as u64;
-        if value > u32::MAX as u64 {
-            return Err(What::TooLarge);
-        }
+        let digit = u32::from(*byte - b'0');
+        value = value
+            .checked_mul(10)
+            .and_then(|tens| tens.checked_add(digit))
+            .ok_or(What::TooLarge)?;
     }
-    Ok(value as u32)
+    Ok(value)
 }

@@ -1,10 +1,10 @@
 // The parts of a depot, each a list of numbers or one number.
-ghost use Rattle.std.specs.Prelude.{◌≡◌, false, MatchOption};
+ghost use Rattle.std.specs.Prelude.{◌≡◌};
 ghost use Rattle.depot.specs.Names.{name_of, names, parts, singles};
 
-use crate::named::{Named, find_named};
+use crate::named::{Listed, Named};
 
-#[derive(Clone, Copy, PartialEq)]
+#[derive(Clone, Copy, Debug, PartialEq, Eq)]
 pub enum Part {
     ArcStarts,
     Heads,
@@ -18,20 +18,6 @@ pub enum Part {
     Bays,
     Board,
 }
-
-const PARTS: [Part; 11] = [
-    Part::ArcStarts,
-    Part::Heads,
-    Part::PointStarts,
-    Part::Departures,
-    Part::Arrivals,
-    Part::Sites,
-    Part::Metres,
-    Part::Segments,
-    Part::Nearest,
-    Part::Bays,
-    Part::Board,
-];
 
 impl Named for Part {
     ghost called = { name_of };
@@ -53,19 +39,31 @@ impl Named for Part {
     }
 }
 
-// The part that has this name.
-pub(crate) fn part_of(name: &[u8]) -> Option<Part>
-    ensures { MatchOption result (names parts name.now ≡ false) (λ p. name.now ≡ name_of p) }
-{
-    find_named(&PARTS, name)
+impl Listed for Part {
+    ghost every = { parts };
+
+    fn all() -> &'static [Part] {
+        &[
+            Part::ArcStarts,
+            Part::Heads,
+            Part::PointStarts,
+            Part::Departures,
+            Part::Arrivals,
+            Part::Sites,
+            Part::Metres,
+            Part::Segments,
+            Part::Nearest,
+            Part::Bays,
+            Part::Board,
+        ]
+    }
 }
 
-// Whether the part is one number.
-pub(crate) fn is_single(part: Part) -> bool
-    ensures { result ≡ names singles (name_of part) }
-{
-    match part {
-        Part::Nearest | Part::Board => true,
-        _ => false,
+impl Part {
+    // Whether the part is one number.
+    pub(crate) fn is_single(self) -> bool
+        ensures { result ≡ names singles (name_of self) }
+    {
+        matches!(self, Part::Nearest | Part::Board)
     }
 }

@@ -4,12 +4,13 @@ use Rattle.std.proofs.lemmas.List.{append-nil, set_split, set-get_or}
 use Rattle.std.proofs.lemmas.Bool.{cond-true, cond-false, cases_eq, cases_lt, lt-ltb, eq-eqb, ne_eqb}
 use Rattle.network.specs.declared.refusals.Refusal.{Refusal}
 use Rattle.soonest.specs.Stages.{upd}
+use Rattle.soonest.proofs.Turns.{upd_other}
+use Rattle.soonest.proofs.Updates.{upd_at}
 use Rattle.board.specs.Held.{board_table, hold_bears}
-use Rattle.board.specs.Promise.{hold_granted, call_refused, hold_answer}
+use Rattle.board.specs.Promise.{hold_granted, hold_answer}
 use Rattle.board.specs.Tables.{Table, sites_of, back_refusal, one_more_out, one_less_out}
 use Rattle.board.specs.declared.board.Board.{Board}
 use Rattle.board.proofs.Boards.{out_past, may_hand_back}
-use Rattle.board.proofs.Counting.{upd_same, upd_other}
 use Rattle.desk.specs.Named.{named, named_sites, site_under, without, kept_at, FirstUnder}
 use Rattle.desk.specs.declared.kept.Kept.{Kept}
 
@@ -54,7 +55,7 @@ tallies_more t xs x s e f tally = (each_bears t.number (xs ++ x ∷ []) (bear_pu
     by : (i : ℕ) → one_at x i + t.out i ≡ upd t.out s (suc (t.out s)) i
     by i =
         ⊎_elim
-        (λ q. let a : one_at x i ≡ 1 = cond-true (eqb (hold_bears x.hold).1 i) 1 0 (eq-eqb (hold_bears x.hold).1 i (f ∙ sym q)) in let b = upd_same t.out s (suc (t.out s)) i q in let c = ap t.out q in omega arith)
+        (λ q. let a : one_at x i ≡ 1 = cond-true (eqb (hold_bears x.hold).1 i) 1 0 (eq-eqb (hold_bears x.hold).1 i (f ∙ sym q)) in let b = upd_at t.out s (suc (t.out s)) i q in let c = ap t.out q in omega arith)
         (λ q. let a : one_at x i ≡ 0 = cond-false (eqb (hold_bears x.hold).1 i) 1 0 (ne_eqb (hold_bears x.hold).1 i (λ z. q (sym z ∙ f))) in let b = upd_other t.out s (suc (t.out s)) i q in omega arith)
         (cases_eq i s)
 
@@ -82,7 +83,7 @@ module _ (b : Board) (before after : List Kept) (x : Kept) (tally : Tallies (boa
           let e = kept_between before after x i in
           let f = tally.1 i in
           ⊎_elim
-          (λ q. let a : one_at x i ≡ 1 = cond-true (eqb site i) 1 0 (eq-eqb site i (sym q)) in let u = upd_same (board_table b).out site ((board_table b).out site - 1) i q in let c = ap (board_table b).out q in omega arith)
+          (λ q. let a : one_at x i ≡ 1 = cond-true (eqb site i) 1 0 (eq-eqb site i (sym q)) in let u = upd_at (board_table b).out site ((board_table b).out site - 1) i q in let c = ap (board_table b).out q in omega arith)
           (λ q. let a : one_at x i ≡ 0 = cond-false (eqb site i) 1 0 (ne_eqb site i (λ z. q (sym z))) in let u = upd_other (board_table b).out site ((board_table b).out site - 1) i q in omega arith)
           (cases_eq i site)
 
@@ -114,14 +115,10 @@ module _ (b : Board) (xs ys : List Kept) (x : Kept) (is : xs ≡ ys ++ x ∷ [])
   pub popped_tallies : (t : Table) → t ≡ one_less_out None (board_table b) (hold_bears x.hold).1 → Tallies t ys
   popped_tallies t e = subst (λ u. Tallies u ys) (sym e) (subst (Tallies (one_less_out None (board_table b) (hold_bears x.hold).1)) (append-nil ys) (tallies_fewer b ys [] x ended))
 
--- what a grant says of its hold, and a refusal of itself
+-- what a grant says of its hold
 pub granted_says : (o : Option Refusal) (a b n s : ℕ) → hold_granted a b ≡ hold_answer o n s → (o ≡ None) × (a ≡ n) × (b ≡ s)
 granted_says None a b n s e = (refl, cc, cc)
 granted_says (Some r) a b n s e = let z : ◌≡◌ {A = ℕ} 0 1 = cc in absurd (omega arith)
-
-pub refused_says : (o : Option Refusal) (r : Refusal) (n s : ℕ) → call_refused r ≡ hold_answer o n s → o ≡ Some r
-refused_says None r n s e = let z : ◌≡◌ {A = ℕ} 0 1 = cc in absurd (omega arith)
-refused_says (Some q) r n s e = cc
 
 -- what is found under a number
 module _ (n : ℕ) where

@@ -1,9 +1,8 @@
 // Opening a desk, its board, and closing it.
-ghost use Rattle.std.specs.Prelude.{◌≡◌, [], IfOk};
-ghost use Rattle.board.specs.Calls.{First};
+ghost use Rattle.std.specs.Prelude.{◌≡◌, IfOk};
 ghost use Rattle.board.specs.Faults.{board_fault};
 ghost use Rattle.board.specs.Held.{board_table};
-ghost use Rattle.board.specs.Promise.{Stands};
+ghost use Rattle.board.specs.Promise.{StandsNew};
 ghost use Rattle.board.specs.Tables.{first_state, board_refusal};
 ghost use Rattle.desk.specs.States.{desk_state, just_opened};
 ghost use Rattle.network.specs.Refused.{refused};
@@ -18,16 +17,13 @@ impl Desk {
     pub fn open(heap: Global, number: u32, bays: &[u32]) -> Result<Desk, BoardFault>
         ensures refusal { refused board_fault result ≡ board_refusal bays.now }
         ensures desk { IfOk result (λ d. desk_state d ≡ just_opened number bays.now) }
-        ensures throughout { IfOk result (λ d. (first : First) → first.number ≡ number → first.bays ≡ bays.now → Stands first [] (desk_state d).table) }
+        ensures throughout { IfOk result (λ d. StandsNew number bays.now (desk_state d).table) }
     {
-        match Board::new(number, bays) {
-            Ok(board) => Ok(Desk {
-                board,
-                holds: Vec::new(heap),
-                next: 0,
-            }),
-            Err(fault) => Err(fault),
-        }
+        Ok(Desk {
+            board: Board::new(number, bays)?,
+            holds: Vec::new(heap),
+            next: 0,
+        })
     }
 
     pub fn board(&self) -> &Board

@@ -1,3 +1,5 @@
 pub mod Changes
 pub mod Faults
-pub mod Held
+pub mod Layered
+pub mod Kept
+pub mod Firsts

@@ -1,9 +1,10 @@
 // Why a layer is not changed.
+ghost use Rattle.std.specs.Prelude.{◌≡◌};
 ghost use Rattle.layers.specs.Faults.{layer_fault};
 
-use network::{Fault, Places, Refusal};
+use network::Refusal;
 
-#[derive(Clone, Copy)]
+#[derive(Clone, Copy, PartialEq, Eq, Debug)]
 pub enum LayerFault {
     NoSuchArc,
     Units,
@@ -12,20 +13,16 @@ pub enum LayerFault {
     NotThere,
 }
 
-impl Fault for LayerFault {
-    ghost meaning = { layer_fault };
+impl From<LayerFault> for Refusal {
+    ghost from_gives = { λ fault said. said ≡ layer_fault fault };
 
-    fn refusal(&self) -> Refusal {
-        let number = match self {
+    fn from(fault: LayerFault) -> Refusal {
+        Refusal::of_call(match fault {
             LayerFault::NoSuchArc => 19,
             LayerFault::Units => 20,
             LayerFault::Full => 35,
             LayerFault::Already => 36,
             LayerFault::NotThere => 37,
-        };
-        Refusal {
-            number,
-            places: Places::Call,
-        }
+        })
     }
 }

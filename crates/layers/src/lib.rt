@@ -1,17 +1,16 @@
 // Layers over any guide: closures, whose arcs carry nothing, and detours, whose arcs take longer.
 #![tactic(auto)]
 
-mod bounded;
-mod closed;
-mod closed_roads;
-mod closing;
+mod changing;
+mod closure;
 mod detour;
-mod detoured;
-mod detoured_roads;
-mod detouring;
 mod faults;
+mod layer;
+mod obstacle;
+mod roads;
 
-pub use closed::Closures;
-pub use detour::Detour;
-pub use detoured::Detours;
+pub use closure::{Closure, Closures};
+pub use detour::{Detour, Detours};
 pub use faults::LayerFault;
+pub use layer::Layer;
+pub use obstacle::Obstacle;

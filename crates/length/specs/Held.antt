@@ -2,12 +2,13 @@
 use Rattle.std.specs.Prelude.{ℕ, Some, None, Ok, Err, vec_items, Option, Result, Vec}
 use Rattle.std.specs.declared.alloc.Global.{Global}
 use Rattle.network.specs.declared.refusals.Refusal.{Refusal}
+use Rattle.network.specs.declared.returned.Returned.{Returned}
 use Rattle.length.specs.Faults.{length_fault}
+use Rattle.length.specs.declared.faults.LengthFault.{LengthFault}
 use Rattle.length.specs.Metres.{table_refusal}
 use Rattle.length.specs.Tables.{Tables}
 use Rattle.length.specs.declared.roads.LengthRoads.{LengthRoads}
 use Rattle.length.specs.declared.tables.LengthTables.{LengthTables}
-use Rattle.length.specs.declared.tables.RefusedLengths.{RefusedLengths}
 
 -- four lists as tables
 abbrev pub listed : (starts heads metres sites : Vec ℕ Global) → Tables
@@ -25,8 +26,8 @@ abbrev pub road_lists : LengthRoads → Tables
 road_lists r = listed r.streets.starts r.streets.heads r.metres r.streets.sites
 
 -- a refusal, with the tables handed back
-abbrev pub handed_back : RefusedLengths → Refusal × Tables
-handed_back r = (length_fault r.fault, table_lists r.tables)
+abbrev pub handed_back : Returned LengthTables LengthFault → Refusal × Tables
+handed_back r = (length_fault r.fault, table_lists r.value)
 
 -- what examining answers: the tables, as roads where nothing refuses them
 abbrev pub answered : Tables → Option Refusal → Result Tables (Refusal × Tables)

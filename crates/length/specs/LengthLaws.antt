@@ -1,15 +1,14 @@
 -- Examined length tables keep the laws of a network. Assumes nothing.
-use Rattle.std.specs.Prelude.{◌+◌, ◌-◌, ◌*◌, ◌/◌, ◌%◌, min, length, vec_items, nat_le, slice_index}
+use Rattle.std.specs.Prelude.{◌+◌, ◌-◌, ◌*◌, ◌/◌, ◌%◌, min, length, vec_items, slice_index}
 use Rattle.std.proofs.Common.{arith}
-use Rattle.std.proofs.lemmas.Bool.{leb-true, le-leb}
+use Rattle.std.proofs.lemmas.Bool.Decides.{nat_tests}
 use Rattle.network.specs.Estimates.{Admissible}
 use Rattle.network.specs.Laws.{WellFormed, Lawful}
-use Rattle.network.proofs.Following.{provided_says, reading_admissible}
+use Rattle.network.proofs.Following.{reading_admissible}
 use Rattle.network.proofs.Refusing.{Arcs, Sited, streets_arcs, streets_sites}
 use Rattle.network.proofs.Tails.{tail_says}
 use Rattle.length.specs.Held.{road_lists}
 use Rattle.length.specs.Model.{length_roads, length_estimate}
-use Rattle.length.specs.Readings.{height_of}
 use Rattle.length.specs.Tables.{Tables}
 use Rattle.length.specs.declared.roads.LengthRoads.{LengthRoads}
 use Rattle.length.specs.Heights.{longer_says, longer_from, carried_says, carried_from, carried_nowhere}
@@ -30,10 +29,10 @@ module _ (t : Tables) (arcs : Arcs t.starts t.heads) (sited : Sited (length t.st
         head_within = arcs.within;
         place_within = sited.within;
         no_such_arc = λ a h l. carried_nowhere t.metres a h (omega arith);
-        low = λ h e. let k = leb-true (h / 65536) 4000000000 e in omega arith;
-        start_reads = λ n h e. let p = provided_says (nat_le n 1000000) (height_of (n, 0)) h e in let k = leb-true n 1000000 p.0 in let j = p.1 in le-leb (h / 65536) 4000000000 (omega arith);
-        carry_reads = λ a h q r e. let s = carried_says t.metres a h q e in let k = s.1 in let j = s.2 in le-leb (q / 65536) 4000000000 (omega arith);
-        lengthen_reads = λ u h q r e. let s = longer_says u h q e in let k = s.0 in let j = s.1 in le-leb (q / 65536) 4000000000 (omega arith);
+        low = λ h e. grind (arith, nat_tests);
+        start_reads = λ n h e. grind (arith, nat_tests);
+        carry_reads = λ a h q r e. let s = carried_says t.metres a h q e in grind (arith, nat_tests);
+        lengthen_reads = λ u h q r e. let s = longer_says u h q e in grind (arith, nat_tests);
       }
 
   pub length_lawful : Lawful (length_roads t)

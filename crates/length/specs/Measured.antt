@@ -1,14 +1,13 @@
--- What metres that are not refused keep, and which check answers. Assumes nothing.
-use Rattle.std.specs.Prelude.{◌≡◌, ℕ, ◌-◌, ◌<◌, ◌≤◌, Bool, true, false, ◌&&◌, List, length, Some, None, ◌==◌, nat_le, slice_index}
-use Rattle.std.specs.Option.{option_or}
-use Rattle.std.proofs.lemmas.Bool.{and_parts, and_from, leb-true, le-leb, eqb-true, eq-eqb}
-use Rattle.network.specs.First.{every, unless}
+-- What metres that are not refused keep, and `every` as `list_all`. Assumes nothing.
+use Rattle.std.specs.Prelude.{◌≡◌, ℕ, zero, suc, ◌-◌, ◌<◌, ◌≤◌, Bool, true, ◌&&◌, List, length, take, None, nat_le, slice_index, refl}
+use Rattle.std.specs.List.{list_all}
+use Rattle.std.proofs.Common.{sym, ap, ◌∙◌, add-one, arith}
+use Rattle.std.proofs.lemmas.List.{take_all}
+use Rattle.std.proofs.lemmas.List.Folds.{list_all_more}
+use Rattle.std.proofs.lemmas.Bool.Decides.{nat_tests}
+use Rattle.network.specs.First.{every}
 use Rattle.network.specs.Lists.{arcs_refusal, sites_refusal}
-use Rattle.network.specs.Refused.{refusal}
-use Rattle.network.specs.declared.refusals.Places.TheVariants.{Call}
-use Rattle.network.specs.declared.refusals.Refusal.{Refusal}
-use Rattle.network.proofs.First.{or_none, unless_none, every_below, every_from}
-use Rattle.network.proofs.Refusing.{not_so}
+use Rattle.network.proofs.First.{every_below}
 use Rattle.length.specs.Metres.{measured, table_refusal}
 use Rattle.length.specs.Tables.{Tables}
 
@@ -24,41 +23,24 @@ module _ (arcs : ℕ) (metres : List ℕ) where
   pub measured_says : measured arcs metres ≡ true → Measured arcs metres
   unfolding measured
   measured_says e =
-      let p = and_parts (length metres == arcs) (every fits (length metres)) e in
-      let each = λ (a : ℕ) (l : a < length metres). and_parts (nat_le 1 (slice_index metres a)) (nat_le (slice_index metres a) 1000000) (every_below fits (length metres) p.1 a l) in
+      let each : every fits (length metres) ≡ true = grind (arith, nat_tests) in
       record {
-        count = eqb-true (length metres) arcs p.0;
-        some = λ a l. leb-true 1 (slice_index metres a) (each a l).0;
-        few = λ a l. leb-true (slice_index metres a) 1000000 (each a l).1;
+        count = grind (arith, nat_tests);
+        some = λ a l. let one = every_below fits (length metres) each a l in grind (arith, nat_tests);
+        few = λ a l. let one = every_below fits (length metres) each a l in grind (arith, nat_tests);
       }
 
-  pub measured_from : Measured arcs metres → measured arcs metres ≡ true
-  unfolding measured
-  measured_from m =
-      and_from (length metres == arcs) (every fits (length metres)) (eq-eqb (length metres) arcs m.count)
-      (every_from fits (length metres) (λ a l. and_from (nat_le 1 (slice_index metres a)) (nat_le (slice_index metres a) 1000000) (le-leb 1 (slice_index metres a) (m.some a l)) (le-leb (slice_index metres a) 1000000 (m.few a l))))
+-- tables that are not refused pass all three checks
+pub table_says : (t : Tables) → table_refusal t ≡ None → (arcs_refusal t.starts t.heads ≡ None) × (measured (length t.heads) t.metres ≡ true) × (sites_refusal (length t.starts - 1) t.sites ≡ None)
+unfolding table_refusal
+table_says t e = (grind arith, grind arith, grind arith)
 
-  pub not_measured : (Measured arcs metres → ⊥) → measured arcs metres ≡ false
-  not_measured h = not_so (measured arcs metres) (λ e. h (measured_says e))
+-- `every` at a list's places is `list_all` of the list
+module _ (p : ℕ → Bool) (xs : List ℕ) where
+  so_far : (n : ℕ) → n ≤ length xs → list_all p (take n xs) ≡ every (λ i. p (slice_index xs i)) n
+  unfolding every
+  so_far zero l = refl
+  so_far (suc n) l = ap (λ k. list_all p (take k xs)) (sym (add-one n)) ∙ list_all_more p xs n 0 (omega arith) ∙ ap (λ b. b && p (slice_index xs n)) (so_far n (omega arith))
 
--- which of the checks of whole tables answers
-module _ (t : Tables) where
-  pub table_arcs : (x : Refusal) → arcs_refusal t.starts t.heads ≡ Some x → table_refusal t ≡ Some x
-  unfolding table_refusal
-  table_arcs x e = rw e
-
-  pub table_metres : arcs_refusal t.starts t.heads ≡ None → measured (length t.heads) t.metres ≡ false → table_refusal t ≡ Some (refusal 12 Call)
-  unfolding table_refusal
-  table_metres d e = rw (d, e)
-
-  pub table_sites : arcs_refusal t.starts t.heads ≡ None → measured (length t.heads) t.metres ≡ true → table_refusal t ≡ sites_refusal (length t.starts - 1) t.sites
-  unfolding table_refusal
-  table_sites d e = rw (d, e)
-
-  pub table_says : table_refusal t ≡ None → (arcs_refusal t.starts t.heads ≡ None) × (measured (length t.heads) t.metres ≡ true) × (sites_refusal (length t.starts - 1) t.sites ≡ None)
-  unfolding table_refusal
-  table_says e =
-      let long = unless (measured (length t.heads) t.metres) (refusal 12 Call) in
-      let a = or_none (arcs_refusal t.starts t.heads) (option_or long (sites_refusal (length t.starts - 1) t.sites)) e in
-      let b = or_none long (sites_refusal (length t.starts - 1) t.sites) a.1 in
-      (a.0, unless_none (measured (length t.heads) t.metres) (refusal 12 Call) b.0, b.1)
+  pub all_is_every : list_all p xs ≡ every (λ i. p (slice_index xs i)) (length xs)
+  all_is_every = ap (list_all p) (sym (take_all (length xs) xs (omega arith))) ∙ so_far (length xs) (omega arith)

@@ -1,6 +1,6 @@
 -- What a reading of the code says. Assumes nothing.
 use Rattle.length.specs.Readings.{Reading}
-use Rattle.length.specs.declared.readings.Travelled.{Travelled}
+use Rattle.length.specs.declared.travelled.Travelled.{Travelled}
 
 abbrev pub told : Travelled → Reading
 told t = (t.metres, t.passed)

@@ -9,8 +9,8 @@ ghost use mathlib.Core.HLevel.{is_prop→PathP};
 ghost use Rattle.std.proofs.Math.Bridge.{le_prop};
 ghost use Rattle.std.proofs.Common.{arith, rules};
 
-use crate::readings::Travelled;
 use crate::roads::LengthRoads;
+use crate::travelled::Travelled;
 use network::{Guide, Network, SiteSet};
 
 const LAST_START: u32 = 1_000_000;
@@ -69,15 +69,11 @@ impl Network for LengthRoads {
     }
 
     fn start(&self, number: u32) -> Option<Travelled> {
-        if number > LAST_START {
-            return None;
-        }
-        Travelled::new(number, 0)
+        Travelled::new(number, 0).filter(|start| start.metres() <= LAST_START)
     }
 
     fn less(&self, one: Travelled, other: Travelled) -> bool {
-        one.metres() < other.metres()
-            || one.metres() == other.metres() && one.passed() < other.passed()
+        one < other
     }
 
     fn height(&self, reading: Travelled) -> u64 {
@@ -85,10 +81,8 @@ impl Network for LengthRoads {
     }
 
     fn carry(&self, arc: u32, reading: Travelled) -> Option<Travelled> {
-        if arc as usize >= self.metres.len() {
-            return None;
-        }
-        reading.one_more().longer(self.metres[arc as usize])
+        let metres = self.metres.get(arc as usize)?;
+        reading.one_more().longer(*metres)
     }
 
     fn lengthen(&self, reading: Travelled, units: u32) -> Option<Travelled> {
@@ -102,10 +96,6 @@ impl Guide for LengthRoads {
     ghost admissible = { roads_admissible };
 
     fn estimate(&self, junction: u32, reading: Travelled, _wanted: &SiteSet) -> Option<Travelled> {
-        if junction < self.streets.junctions() {
-            Some(reading)
-        } else {
-            None
-        }
+        (junction < self.streets.junctions()).then_some(reading)
     }
 }

@@ -1,54 +1,53 @@
 // Examining turns raw tables into length roads, or says what is wrong with them.
 ghost use Rattle.std.specs.Prelude.{◌≡◌, None};
 ghost use Rattle.length.specs.Faults.{length_fault};
-ghost use Rattle.length.specs.Held.{listed, table_lists, road_lists, handed_back, examined};
+ghost use Rattle.length.specs.Held.{table_lists, road_lists, handed_back, examined};
 ghost use Rattle.length.specs.Metres.{measured, table_refusal};
 ghost use Rattle.network.specs.Refused.{refused};
 ghost use Rattle.std.specs.Result.{result_map_both};
 
 use crate::faults::LengthFault;
 use crate::roads::LengthRoads;
-use crate::tables::{LengthTables, RefusedLengths};
-use network::{Streets, check_arcs, check_sites};
+use crate::tables::LengthTables;
+use network::{Returned, Streets, check_arcs, check_sites};
 
 const MOST_ARC_METRES: u32 = 1_000_000;
 
 fn metres_fit(arcs: usize, metres: &[u32]) -> bool
     ensures { result ≡ measured arcs metres.now }
 {
-    if metres.len() != arcs {
-        return false;
-    }
-    for arc in 0..metres.len() {
-        let long = metres[arc];
-        if long < 1 || long > MOST_ARC_METRES {
-            return false;
-        }
-    }
-    true
+    metres.len() == arcs
+        && metres
+            .iter()
+            .all(|long| (1..=MOST_ARC_METRES).contains(long))
 }
 
 impl LengthTables {
     // The first fault, in the order of the checks: arcs, metres, sites.
+    #[tactic(auto, unfolding(crate::specs::Metres::table_refusal))]
     pub fn check(&self) -> Result<(), LengthFault>
         ensures { refused length_fault result ≡ table_refusal (table_lists self.now) }
     {
-        check_arcs(self.starts.as_slice(), self.heads.as_slice())?;
-        if !metres_fit(self.heads.len(), self.metres.as_slice()) {
+        check_arcs(&self.starts, &self.heads)?;
+        if !metres_fit(self.heads.len(), &self.metres) {
             return Err(LengthFault::Metres);
         }
-        check_sites(self.starts.len() - 1, self.sites.as_slice())?;
+        check_sites(self.starts.len() - 1, &self.sites)?;
         Ok(())
     }
+}
 
-    // Refused tables are handed back as they were.
-    pub fn examine(self) -> Result<LengthRoads, RefusedLengths>
-        ensures { result_map_both road_lists handed_back result ≡ examined (table_lists self) }
-    {
-        if let Err(fault) = self.check() {
-            return Err(RefusedLengths {
+// Refused tables are handed back as they were.
+impl TryFrom<LengthTables> for LengthRoads {
+    type Error = Returned<LengthTables, LengthFault>;
+
+    ghost try_from_gives = { λ tables result. result_map_both road_lists handed_back result ≡ examined (table_lists tables) };
+
+    fn try_from(tables: LengthTables) -> Result<LengthRoads, Returned<LengthTables, LengthFault>> {
+        if let Err(fault) = tables.check() {
+            return Err(Returned {
                 fault,
-                tables: self,
+                value: tables,
             });
         }
         let LengthTables {
@@ -56,45 +55,32 @@ impl LengthTables {
             heads,
             metres,
             sites,
-        } = self;
-        Ok(built(starts, heads, metres, sites))
+        } = tables;
+        let streets = Streets {
+            starts,
+            heads,
+            sites,
+        };
+        Ok(LengthRoads { streets, metres })
     }
 }
 
-fn built(starts: Vec<u32>, heads: Vec<u32>, metres: Vec<u32>, sites: Vec<u32>) -> LengthRoads
-    requires { table_refusal (listed starts heads metres sites) ≡ None }
-    ensures { road_lists result ≡ listed starts heads metres sites }
-{
-    let streets = Streets {
-        starts,
-        heads,
-        sites,
-    };
-    LengthRoads { streets, metres }
-}
+// The tables, as they were examined.
+impl From<LengthRoads> for LengthTables {
+    ghost from_gives = { λ roads tables. table_lists tables ≡ road_lists roads };
 
-fn raw(starts: Vec<u32>, heads: Vec<u32>, metres: Vec<u32>, sites: Vec<u32>) -> LengthTables
-    ensures { table_lists result ≡ listed starts heads metres sites }
-{
-    LengthTables {
-        starts,
-        heads,
-        metres,
-        sites,
-    }
-}
-
-impl LengthRoads {
-    // The tables, as they were examined.
-    pub fn into_tables(self) -> LengthTables
-        ensures { table_lists result ≡ road_lists self }
-    {
-        let LengthRoads { streets, metres } = self;
+    fn from(roads: LengthRoads) -> LengthTables {
+        let LengthRoads { streets, metres } = roads;
         let Streets {
             starts,
             heads,
             sites,
         } = streets;
-        raw(starts, heads, metres, sites)
+        LengthTables {
+            starts,
+            heads,
+            metres,
+            sites,
+        }
     }
 }

@@ -4,13 +4,12 @@
 mod answers;
 mod examining;
 mod faults;
-mod readings;
 mod roads;
 mod shown;
 mod tables;
 mod travelled;
 
 pub use faults::LengthFault;
-pub use readings::Travelled;
 pub use roads::LengthRoads;
-pub use tables::{LengthTables, RefusedLengths};
+pub use tables::LengthTables;
+pub use travelled::Travelled;

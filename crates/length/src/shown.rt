@@ -1,5 +1,5 @@
 // How a reading is printed: its metres, and its arcs passed.
-use crate::readings::Travelled;
+use crate::travelled::Travelled;
 use std::fmt;
 
 impl fmt::Display for Travelled {

@@ -1,6 +1,4 @@
 // Raw length tables, as they are read: nothing is known of them yet.
-use crate::faults::LengthFault;
-
 #[derive(Drop)]
 pub struct LengthTables {
     // where each junction's arcs start, and one more
@@ -10,11 +8,4 @@ pub struct LengthTables {
     pub metres: Vec<u32>,
     // each site's junction
     pub sites: Vec<u32>,
-}
-
-// Tables that were refused come back as they were.
-#[derive(Drop)]
-pub struct RefusedLengths {
-    pub fault: LengthFault,
-    pub tables: LengthTables,
 }

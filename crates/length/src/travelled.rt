@@ -1,17 +1,24 @@
-// How a reading of length roads grows.
-ghost use Rattle.std.specs.Prelude.{◌≡◌, ◌&&◌, nat_le};
+// A reading of length roads: metres, then arcs passed.
+ghost use Rattle.std.specs.Prelude.{◌≡◌, ◌≤◌, ◌&&◌, nat_le};
 ghost use Rattle.length.specs.Readings.{longer, one_more};
-ghost use Rattle.length.specs.Travel.{told};
 ghost use Rattle.network.specs.First.{provided};
 ghost use Rattle.std.specs.Option.{option_map};
-
-use crate::readings::Travelled;
 
 const MOST_METRES: u32 = 4_000_000_000;
 
 const MOST_PASSED: u32 = 65_535;
 
+#[derive(Clone, Copy, PartialEq, Eq, PartialOrd, Ord, Debug)]
+pub struct Travelled {
+    metres: u32,
+    passed: u32,
+    ghost far: { metres ≤ 4000000000 },
+    ghost few: { passed ≤ 65535 },
+}
+
 impl Travelled {
+    ghost use Rattle.length.specs.Travel.{told};
+
     // Nothing above 4,000,000,000 metres or 65,535 arcs.
     pub fn new(metres: u32, passed: u32) -> Option<Travelled>
         ensures { option_map told result ≡ provided (nat_le metres 4000000000 && nat_le passed 65535) (metres, passed) }
@@ -38,14 +45,7 @@ impl Travelled {
     pub fn longer(self, by: u32) -> Option<Travelled>
         ensures { option_map told result ≡ longer by (told self) }
     {
-        let metres = self.metres as u64 + by as u64;
-        if metres > MOST_METRES as u64 {
-            return None;
-        }
-        Some(Travelled {
-            metres: metres as u32,
-            passed: self.passed,
-        })
+        Travelled::new(self.metres.checked_add(by)?, self.passed)
     }
 
     // The count stays at 65,535.

@@ -1,5 +1,5 @@
 -- What `first_of` and `every` say of each number. Assumes nothing.
-use Rattle.std.proofs.Common.{◌≡◌, ℕ, zero, suc, ◌+◌, ◌<◌, ◌≤◌, Bool, true, false, ◌&&◌, is_some, Some, None, Option, sym, refl, ap, ◌∙◌, subst, ⊎_elim, add-one, arith}
+use Rattle.std.proofs.Common.{◌≡◌, ℕ, zero, suc, ◌<◌, ◌≤◌, Bool, true, false, ◌&&◌, is_some, Some, None, Option, sym, refl, ap, ◌∙◌, subst, ⊎_elim, arith}
 use Rattle.std.specs.Option.{option_or}
 use Rattle.std.proofs.lemmas.Bool.{and_parts, and_from, cases_eq, cases_lt}
 use Rattle.network.specs.First.{first_of, every, unless, provided}
@@ -15,7 +15,7 @@ is_none (Some x) e = let z : ◌≡◌ {A = ℕ} 0 1 = cc in absurd (omega arith
 pub none_is : {X : Type 0} (o : Option X) → o ≡ None → is_some o ≡ false
 none_is o e = ap is_some e
 
--- both parts of an `orOther` that answers nothing
+-- both parts of an `option_or` that answers nothing
 pub or_none : {X : Type 0} (o p : Option X) → option_or o p ≡ None → (o ≡ None) × (p ≡ None)
 or_none None p e = (refl, e)
 or_none (Some x) p e = clash (Some x) x refl e
@@ -45,10 +45,6 @@ module _ {X : Type 0} (f : ℕ → Option X) where
   unfolding first_of
   first_suc n = refl
 
-  -- a loop's turn
-  pub first_more : (n : ℕ) → first_of f (n + 1) ≡ option_or (first_of f n) (f n)
-  first_more n = ap (first_of f) (add-one n) ∙ first_suc n
-
   pub first_none : (n : ℕ) → ((i : ℕ) → i < n → f i ≡ None) → first_of f n ≡ None
   first_none zero h = first_zero
   first_none (suc n) h = first_suc n ∙ ap (λ o. option_or o (f n)) (first_none n (λ i l. h i (omega arith))) ∙ h n (omega arith)
@@ -70,10 +66,6 @@ module _ {X : Type 0} (f : ℕ → Option X) where
       (λ p. subst (λ k. f k ≡ None) (sym p) parts.1)
       (λ p. none_below n parts.0 i (omega arith))
       (cases_eq i n)
-
-  -- a loop that has come to the end
-  pub none_until : (n m : ℕ) → first_of f n ≡ None → m ≤ n → first_of f m ≡ None
-  none_until n m e l = first_none m (λ i k. none_below n e i (omega arith))
 
 module _ (p : ℕ → Bool) where
   pub every_zero : every p 0 ≡ true

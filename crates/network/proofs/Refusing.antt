@@ -1,14 +1,17 @@
 -- What lists that are not refused keep. Assumes nothing.
-use Rattle.std.proofs.Common.{◌≡◌, ℕ, ◌+◌, ◌-◌, ◌<◌, ◌≤◌, Bool, true, false, ◌&&◌, eqb, ltb, leb, List, length, get_or, is_some, Some, None, vec_items, Option, refl, ap, ◌∙◌}
-use Rattle.std.specs.Option.{option_or}
-use Rattle.std.proofs.lemmas.Bool.{and_parts, and_from, leb-true, ltb-true, eqb-true, le-leb, lt-leb, lt-ltb, eq-eqb}
+use Rattle.std.proofs.Common.{◌≡◌, ℕ, ◌+◌, ◌-◌, ◌<◌, ◌≤◌, Bool, true, false, ◌&&◌, ltb, leb, List, length, get_or, is_some, Some, None, vec_items, Option, sym, refl, cond, position, MatchBool, arith}
+use Rattle.std.specs.List.{position_or_len}
+use Rattle.std.specs.Option.{option_map}
+use Rattle.std.proofs.lemmas.Bool.Decides.{nat_tests}
+use Rattle.std.proofs.lemmas.Bool.{false_from_ne_true, leb-true, leb-false, ltb-true, ltb-false, le-leb, le-ltb, lt-ltb}
+use Rattle.std.proofs.lemmas.List.Sums.{fails_before_first, passes_at_first}
 use Rattle.network.specs.declared.lists.Streets.{Streets}
 use Rattle.network.specs.declared.refusals.Places.TheVariants.{Call, One}
 use Rattle.network.specs.declared.refusals.Refusal.{Refusal}
 use Rattle.network.specs.First.{first_of, every, unless}
 use Rattle.network.specs.Lists.{runs, arcs_refusal, sites_refusal}
 use Rattle.network.specs.Refused.{refusal}
-use Rattle.network.proofs.First.{is_none, or_none, unless_none, none_below, every_below, every_from, first_more, first_at}
+use Rattle.network.proofs.First.{none_below, every_below, every_from, first_none, first_at, unless_true, unless_false}
 
 -- a list that runs from 0 to `last` in steps of at least `step`
 pub record Runs (list : List ℕ) (step last : ℕ) : Type 0 where
@@ -21,14 +24,12 @@ pub runs_says : (list : List ℕ) (step last : ℕ) → runs list step last ≡ 
 unfolding runs
 runs_says list step last e =
     let rise : ℕ → Bool = λ i. leb (get_or list i 0 + step) (get_or list (i + 1) 0) in
-    let a = and_parts (ltb 0 (length list) && eqb (get_or list 0 0) 0 && eqb (get_or list (length list - 1) 0) last) (every rise (length list - 1)) e in
-    let b = and_parts (ltb 0 (length list) && eqb (get_or list 0 0) 0) (eqb (get_or list (length list - 1) 0) last) a.0 in
-    let d = and_parts (ltb 0 (length list)) (eqb (get_or list 0 0) 0) b.0 in
+    let all : every rise (length list - 1) ≡ true = grind (arith, nat_tests) in
     record {
-      some = ltb-true 0 (length list) d.0;
-      from = eqb-true (get_or list 0 0) 0 d.1;
-      to = eqb-true (get_or list (length list - 1) 0) last b.1;
-      steps = λ i l. leb-true (get_or list i 0 + step) (get_or list (i + 1) 0) (every_below rise (length list - 1) a.1 i l);
+      some = grind (arith, nat_tests);
+      from = grind (arith, nat_tests);
+      to = grind (arith, nat_tests);
+      steps = λ i l. let one = every_below rise (length list - 1) all i l in grind (arith, nat_tests);
     }
 
 -- arc starts and heads that are not refused
@@ -42,19 +43,15 @@ pub record Arcs (starts heads : List ℕ) : Type 0 where
 pub arcs_say : (starts heads : List ℕ) → is_some (arcs_refusal starts heads) ≡ false → Arcs starts heads
 unfolding arcs_refusal
 arcs_say starts heads e =
-    let count : Bool = leb 2 (length starts) && leb (length starts) 4097 in
-    let rest : Bool = runs starts 0 (length heads) && leb (length heads) 16384 in
     let at = λ (a : ℕ). unless (ltb (get_or heads a 0) (length starts - 1)) (refusal 3 (One a)) in
-    let a = or_none (unless count (refusal 1 Call)) (option_or (unless rest (refusal 2 Call)) (first_of at (length heads))) (is_none (arcs_refusal starts heads) e) in
-    let b = or_none (unless rest (refusal 2 Call)) (first_of at (length heads)) a.1 in
-    let p = and_parts (leb 2 (length starts)) (leb (length starts) 4097) (unless_none count (refusal 1 Call) a.0) in
-    let q = and_parts (runs starts 0 (length heads)) (leb (length heads) 16384) (unless_none rest (refusal 2 Call) b.0) in
+    let run : runs starts 0 (length heads) ≡ true = grind (arith, nat_tests) in
+    let none : first_of at (length heads) ≡ None = grind (arith, nat_tests) in
     record {
-      two = leb-true 2 (length starts) p.0;
-      few = leb-true (length starts) 4097 p.1;
-      run = runs_says starts 0 (length heads) q.0;
-      few_heads = leb-true (length heads) 16384 q.1;
-      within = λ i l. ltb-true (get_or heads i 0) (length starts - 1) (unless_none (ltb (get_or heads i 0) (length starts - 1)) (refusal 3 (One i)) (none_below at (length heads) b.1 i l));
+      two = grind (arith, nat_tests);
+      few = grind (arith, nat_tests);
+      run = runs_says starts 0 (length heads) run;
+      few_heads = grind (arith, nat_tests);
+      within = λ i l. let here = none_below at (length heads) none i l in grind (arith, nat_tests);
     }
 
 pub streets_arcs : (s : Streets) → Arcs (vec_items s.starts) (vec_items s.heads)
@@ -69,10 +66,10 @@ pub sites_say : (junctions : ℕ) (sites : List ℕ) → is_some (sites_refusal 
 unfolding sites_refusal
 sites_say junctions sites e =
     let at = λ (s : ℕ). unless (ltb (get_or sites s 0) junctions) (refusal 8 (One s)) in
-    let a = or_none (unless (leb (length sites) 64) (refusal 8 (One 64))) (first_of at (length sites)) (is_none (sites_refusal junctions sites) e) in
+    let none : first_of at (length sites) ≡ None = grind (arith, nat_tests) in
     record {
-      few = leb-true (length sites) 64 (unless_none (leb (length sites) 64) (refusal 8 (One 64)) a.0);
-      within = λ s l. ltb-true (get_or sites s 0) junctions (unless_none (ltb (get_or sites s 0) junctions) (refusal 8 (One s)) (none_below at (length sites) a.1 s l));
+      few = grind (arith, nat_tests);
+      within = λ s l. let here = none_below at (length sites) none s l in grind (arith, nat_tests);
     }
 
 pub streets_sites : (s : Streets) → Sited (length (vec_items s.starts) - 1) (vec_items s.sites)
@@ -83,49 +80,34 @@ pub runs_from : (list : List ℕ) (step last : ℕ) → Runs list step last → 
 unfolding runs
 runs_from list step last r =
     let rise : ℕ → Bool = λ i. leb (get_or list i 0 + step) (get_or list (i + 1) 0) in
-    and_from (ltb 0 (length list) && eqb (get_or list 0 0) 0 && eqb (get_or list (length list - 1) 0) last) (every rise (length list - 1))
-    (and_from (ltb 0 (length list) && eqb (get_or list 0 0) 0) (eqb (get_or list (length list - 1) 0) last)
-    (and_from (ltb 0 (length list)) (eqb (get_or list 0 0) 0) (lt-ltb 0 (length list) r.some) (eq-eqb (get_or list 0 0) 0 r.from))
-    (eq-eqb (get_or list (length list - 1) 0) last r.to))
-    (every_from rise (length list - 1) (λ i l. le-leb (get_or list i 0 + step) (get_or list (i + 1) 0) (r.steps i l)))
-
--- a test that would say something untrue is false
-pub not_so : (b : Bool) → (b ≡ true → ⊥) → b ≡ false
-not_so true h = absurd (h refl)
-not_so false h = refl
+    let all : every rise (length list - 1) ≡ true = every_from rise (length list - 1) (λ i l. le-leb (get_or list i 0 + step) (get_or list (i + 1) 0) (r.steps i l)) in
+    let some = r.some in
+    let from = r.from in
+    let to = r.to in
+    grind (arith, nat_tests)
 
 pub not_runs : (list : List ℕ) (step last : ℕ) → (Runs list step last → ⊥) → runs list step last ≡ false
-not_runs list step last h = not_so (runs list step last) (λ e. h (runs_says list step last e))
+not_runs list step last h = false_from_ne_true (runs list step last) (λ e. h (runs_says list step last e))
 
 module _ (starts heads : List ℕ) where
-  counted : Bool
-  counted = leb 2 (length starts) && leb (length starts) 4097
-
-  run : Bool
-  run = runs starts 0 (length heads) && leb (length heads) 16384
-
   abbrev pub head_at : ℕ → Option Refusal
   head_at a = unless (ltb (get_or heads a 0) (length starts - 1)) (refusal 3 (One a))
 
   pub arcs_miscounted : (2 ≤ length starts → length starts ≤ 4097 → ⊥) → arcs_refusal starts heads ≡ Some (refusal 1 Call)
-  unfolding arcs_refusal counted
+  unfolding arcs_refusal
   arcs_miscounted h =
-      let e : counted ≡ false = not_so counted (λ t. let p = and_parts (leb 2 (length starts)) (leb (length starts) 4097) t in h (leb-true 2 (length starts) p.0) (leb-true (length starts) 4097 p.1)) in
+      let e : (leb 2 (length starts) && leb (length starts) 4097) ≡ false = false_from_ne_true _ (λ t. h (grind (arith, nat_tests)) (grind (arith, nat_tests))) in
       rw e
 
   pub arcs_misrun : 2 ≤ length starts → length starts ≤ 4097 → (runs starts 0 (length heads) ≡ true → length heads ≤ 16384 → ⊥) → arcs_refusal starts heads ≡ Some (refusal 2 Call)
-  unfolding arcs_refusal counted run
+  unfolding arcs_refusal
   arcs_misrun l m h =
-      let e : counted ≡ true = and_from (leb 2 (length starts)) (leb (length starts) 4097) (le-leb 2 (length starts) l) (le-leb (length starts) 4097 m) in
-      let d : run ≡ false = not_so run (λ t. let p = and_parts (runs starts 0 (length heads)) (leb (length heads) 16384) t in h p.0 (leb-true (length heads) 16384 p.1)) in
-      rw (e, d)
+      let e : (runs starts 0 (length heads) && leb (length heads) 16384) ≡ false = false_from_ne_true _ (λ t. h (grind (arith, nat_tests)) (grind (arith, nat_tests))) in
+      grind (arith, nat_tests)
 
   pub arcs_then : 2 ≤ length starts → length starts ≤ 4097 → runs starts 0 (length heads) ≡ true → length heads ≤ 16384 → arcs_refusal starts heads ≡ first_of head_at (length heads)
-  unfolding arcs_refusal counted run
-  arcs_then l m r k =
-      let e : counted ≡ true = and_from (leb 2 (length starts)) (leb (length starts) 4097) (le-leb 2 (length starts) l) (le-leb (length starts) 4097 m) in
-      let d : run ≡ true = and_from (runs starts 0 (length heads)) (leb (length heads) 16384) r (le-leb (length heads) 16384 k) in
-      rw (e, d)
+  unfolding arcs_refusal
+  arcs_then l m r k = grind (arith, nat_tests)
 
 module _ (junctions : ℕ) (sites : List ℕ) where
   abbrev pub site_at : ℕ → Option Refusal
@@ -133,16 +115,38 @@ module _ (junctions : ℕ) (sites : List ℕ) where
 
   pub sites_many : 64 < length sites → sites_refusal junctions sites ≡ Some (refusal 8 (One 64))
   unfolding sites_refusal
-  sites_many l = let e : leb (length sites) 64 ≡ false = lt-leb (length sites) 64 l in rw e
+  sites_many l = grind (arith, nat_tests)
 
   pub sites_then : length sites ≤ 64 → sites_refusal junctions sites ≡ first_of site_at (length sites)
   unfolding sites_refusal
-  sites_then l = let e : leb (length sites) 64 ≡ true = le-leb (length sites) 64 l in rw e
+  sites_then l = grind (arith, nat_tests)
 
--- a loop that has found nothing so far, and then something or nothing
-module _ {X : Type 0} (f : ℕ → Option X) (n : ℕ) (quiet : first_of f n ≡ None) where
-  pub still_none : f n ≡ None → first_of f (n + 1) ≡ None
-  still_none e = first_more f n ∙ ap (λ o. option_or o (f n)) quiet ∙ e
+-- the answer of a whole run over the steps
+pub runs_where : (list : List ℕ) (step last : ℕ) (r : Bool) → 0 < length list → get_or list 0 0 ≡ 0 → get_or list (length list - 1) 0 ≡ last
+    → MatchBool r ((i : ℕ) → i + 1 < length list → get_or list i 0 + step ≤ get_or list (i + 1) 0) ((i : ℕ) × (i + 1 < length list) × (get_or list (i + 1) 0 < get_or list i 0 + step))
+    → r ≡ runs list step last
+runs_where list step last true l f t m = sym (runs_from list step last (record {
+  some = l;
+  from = f;
+  to = t;
+  steps = λ i k. m i (omega arith);
+}))
+runs_where list step last false l f t m = sym (not_runs list step last (λ r. let s = r.steps m.0 (omega arith) in omega arith))
 
-  pub found : (m : ℕ) (x : X) → n < m → f n ≡ Some x → first_of f m ≡ Some x
-  found m x l e = first_at f m n x l (none_below f n quiet) e
+-- the first number that is not below a bound, where each place would answer
+module _ {X : Type 0} (numbers : List ℕ) (bound : ℕ) (answer : ℕ → X) where
+  abbrev past : ℕ → Bool
+  past n = leb bound n
+
+  abbrev at : ℕ → Option X
+  at i = unless (ltb (get_or numbers i 0) bound) (answer i)
+
+  quiet : (i : ℕ) → i < position_or_len past numbers → at i ≡ None
+  quiet i l = unless_true (ltb (get_or numbers i 0) bound) (answer i) (lt-ltb (get_or numbers i 0) bound (leb-false bound (get_or numbers i 0) (fails_before_first past numbers i 0 l)))
+
+  pub first_past : first_of at (length numbers) ≡ option_map answer (position past numbers)
+  first_past = let n = position_or_len past numbers in
+      elim (ltb n (length numbers)) as (λ b. ltb n (length numbers) ≡ b → first_of at (length numbers) ≡ option_map answer (cond b (Some n) None)) [
+        | true ↦ λ e. let l = ltb-true n (length numbers) e in first_at at (length numbers) n (answer n) l quiet (unless_false (ltb (get_or numbers n 0) bound) (answer n) (le-ltb (get_or numbers n 0) bound (leb-true bound (get_or numbers n 0) (passes_at_first past numbers 0 l))))
+        | false ↦ λ e. first_none at (length numbers) (λ i l. quiet i (let m = ltb-false n (length numbers) e in omega arith))
+      ] refl

@@ -1,6 +1,6 @@
 -- The lists that every kind of roads has: arc starts, heads, and each site's junction. Junction v's arcs run from arc
 -- start v to before arc start v + 1. Assumes nothing.
-use Rattle.std.specs.Prelude.{ℕ, ◌+◌, ◌-◌, ◌<◌, ◌≤◌, Bool, ◌&&◌, leb, List, length, Option, ◌==◌, nat_le, nat_lt, slice_index}
+use Rattle.std.specs.Prelude.{ℕ, ◌+◌, ◌-◌, ◌<◌, ◌≤◌, Bool, ◌&&◌, List, length, Option, ◌==◌, nat_le, nat_lt, slice_index}
 use Rattle.std.specs.Option.{option_or, unwrap_or}
 use Rattle.network.specs.declared.refusals.Places.TheVariants.{Call, One}
 use Rattle.network.specs.declared.refusals.Refusal.{Refusal}
@@ -10,7 +10,7 @@ use Rattle.network.specs.Refused.{refusal}
 
 -- whether a list runs from 0 to `last` in steps of at least `step`
 unfoldable pub runs : List ℕ → ℕ → ℕ → Bool
-runs list step last = nat_lt 0 (length list) && slice_index list 0 == 0 && slice_index list (length list - 1) == last && every (λ i. leb (slice_index list i + step) (slice_index list (i + 1))) (length list - 1)
+runs list step last = nat_lt 0 (length list) && slice_index list 0 == 0 && slice_index list (length list - 1) == last && every (λ i. nat_le (slice_index list i + step) (slice_index list (i + 1))) (length list - 1)
 
 -- what arc starts and heads are refused by, if anything
 unfoldable pub arcs_refusal : (starts heads : List ℕ) → Option Refusal

@@ -6,13 +6,15 @@ mod checks;
 mod lists;
 mod questions;
 mod refusals;
+mod returned;
 mod shown;
 mod sites;
 mod streets;
 
 pub use bounds::lower_bound;
-pub use checks::{check_arcs, check_sites, runs_to};
+pub use checks::{MOST_JUNCTIONS, check_arcs, check_sites, runs_to};
 pub use lists::Streets;
 pub use questions::{Guide, Network};
-pub use refusals::{Fault, Places, Refusal, StreetFault};
-pub use sites::SiteSet;
+pub use refusals::{Places, Refusal, StreetFault};
+pub use returned::Returned;
+pub use sites::{MOST_SITES, SiteSet};

@@ -1,7 +1,7 @@
 // What a refused call answers: a number for each fault, and the places that it names.
 ghost use Rattle.std.specs.Prelude.{◌≡◌};
-ghost use Rattle.network.specs.Refused.{street_refusal};
-ghost use Rattle.network.specs.declared.refusals.Refusal.{Refusal};
+ghost use Rattle.network.specs.Refused.{refusal, street_refusal};
+ghost use Rattle.network.specs.declared.refusals.Places.TheVariants.{Call};
 
 // The places that a refusal names; where it names none, it is the call itself.
 #[derive(Clone, Copy, PartialEq, Eq, Debug)]
@@ -18,12 +18,16 @@ pub struct Refusal {
     pub places: Places,
 }
 
-// A fault says which refusal it is.
-pub trait Fault {
-    ghost meaning: { Self → Refusal };
-
-    fn refusal(&self) -> Refusal
-        ensures { result ≡ meaning self.now };
+impl Refusal {
+    // A refusal that names no place.
+    pub fn of_call(number: u32) -> Refusal
+        ensures { result ≡ refusal number Call }
+    {
+        Refusal {
+            number,
+            places: Places::Call,
+        }
+    }
 }
 
 // What can be wrong with the lists that every kind of roads has.
@@ -35,26 +39,20 @@ pub enum StreetFault {
     Site(u32),
 }
 
-impl Fault for StreetFault {
-    ghost meaning = { street_refusal };
+impl From<StreetFault> for Refusal {
+    ghost from_gives = { λ fault said. said ≡ street_refusal fault };
 
-    fn refusal(&self) -> Refusal {
-        match self {
-            StreetFault::StartCount => Refusal {
-                number: 1,
-                places: Places::Call,
-            },
-            StreetFault::Starts => Refusal {
-                number: 2,
-                places: Places::Call,
-            },
+    fn from(fault: StreetFault) -> Refusal {
+        match fault {
+            StreetFault::StartCount => Refusal::of_call(1),
+            StreetFault::Starts => Refusal::of_call(2),
             StreetFault::Head(arc) => Refusal {
                 number: 3,
-                places: Places::One(*arc),
+                places: Places::One(arc),
             },
             StreetFault::Site(site) => Refusal {
                 number: 8,
-                places: Places::One(*site),
+                places: Places::One(site),
             },
         }
     }

@@ -2,18 +2,20 @@
 ghost use Rattle.std.specs.Prelude.{◌≡◌, ℕ, true, false, ◌&&◌, if◌then◌else◌, nat_eq, nat_lt};
 ghost use Rattle.network.specs.Sets.{has};
 
-pub(crate) const MOST_SITES: usize = 64;
+pub const MOST_SITES: usize = 64;
 
-#[derive(Clone, Copy)]
+#[derive(Clone, Copy, PartialEq, Eq, Debug)]
 pub struct SiteSet {
-    flags: [bool; 64],
+    flags: [bool; MOST_SITES],
 }
 
 impl SiteSet {
     pub fn none() -> SiteSet
         ensures { (k : ℕ) → has result k ≡ false }
     {
-        SiteSet { flags: [false; 64] }
+        SiteSet {
+            flags: [false; MOST_SITES],
+        }
     }
 
     pub fn has(&self, site: u32) -> bool
@@ -26,16 +28,20 @@ impl SiteSet {
     pub fn insert(&mut self, site: u32)
         ensures { (k : ℕ) → has self.new k ≡ (if nat_eq k site && nat_lt site 64 then true else has self.old k) }
     {
-        if (site as usize) < MOST_SITES {
-            self.flags[site as usize] = true;
-        }
+        self.put(site, true);
     }
 
     pub fn remove(&mut self, site: u32)
         ensures { (k : ℕ) → has self.new k ≡ (if nat_eq k site then false else has self.old k) }
     {
+        self.put(site, false);
+    }
+
+    fn put(&mut self, site: u32, held: bool)
+        ensures { (k : ℕ) → has self.new k ≡ (if nat_eq k site && nat_lt site 64 then held else has self.old k) }
+    {
         if (site as usize) < MOST_SITES {
-            self.flags[site as usize] = false;
+            self.flags[site as usize] = held;
         }
     }
 }

@@ -50,11 +50,7 @@ impl Streets {
             return None;
         }
         let arc = self.starts[v].max(from);
-        if arc < self.starts[v + 1] {
-            Some(arc)
-        } else {
-            None
-        }
+        (arc < self.starts[v + 1]).then_some(arc)
     }
 
     pub fn place(&self, site: u32) -> Option<u32>

@@ -1,24 +1,26 @@
 -- What waits after an item is replaced, added or cut off. Assumes nothing.
 use Rattle.std.proofs.Common.{◌≡◌, ℕ, ◌+◌, ◌<◌, ◌≤◌, Bool, List, length, take, Some, None, Option, sym, refl, ap, ◌∙◌, subst, ⊎_elim, arith}
 use Rattle.std.specs.List.{slice_get}
+use Rattle.std.specs.Option.{option_and_then}
 use Rattle.std.proofs.lemmas.Bool.{cases_eq}
 use Rattle.queue.specs.declared.slot.Slot.{Slot}
-use Rattle.queue.specs.Room.{item, place, Same}
-use Rattle.queue.specs.Waiting.{onward, bearing, waiting_in, Updated, count_of}
-use Rattle.queue.specs.Heap.{Placed, Kept, Heap, Sound}
-use Rattle.queue.proofs.Counting.{count_same, count_none}
+use Rattle.queue.specs.Room.{item, place}
+use Rattle.queue.specs.Waiting.{bearing, waiting_in, Updated}
+use Rattle.queue.specs.Heap.{Placed, Sound}
+use Rattle.queue.proofs.Counting.{count_none}
 use Rattle.queue.proofs.Writing.{any_item}
-use Rattle.queue.proofs.Holding.{clash, found, held_by, equal_at}
+use Rattle.queue.proofs.Holding.{found, held_by, equal_at}
 
 module _ {T : Type 0} (handled : T → ℕ) where
   -- the item at `at` becomes x, with the same handle
-  module _ (s t : List (Slot T)) (len at : ℕ) (x : T) (p : Placed handled s len) (long : length t ≡ length s) (low : at < len) (own : (d : Slot T) → handled (item s d at) ≡ handled x) (items : (d : Slot T) → Updated (item s d) (item t d) at x) (places : (d : Slot T) → Same (place s d) (place t d)) where
+  module _ (s t : List (Slot T)) (len at : ℕ) (x : T) (p : Placed handled s len) (long : length t ≡ length s) (low : at < len) (own : (d : Slot T) → handled (item s d at) ≡ handled x) (items : (d : Slot T) → Updated (item s d) (item t d) at x) (places : (d : Slot T) (k : ℕ) → place t d k ≡ place s d k) where
     as_before : (d : Slot T) (k : ℕ) → handled (item t d k) ≡ handled (item s d k)
     as_before d k = ⊎_elim (λ e. ap (λ i. handled (item t d i)) e ∙ ap handled (items d).0 ∙ sym (own d) ∙ ap (λ i. handled (item s d i)) (sym e)) (λ n. ap handled ((items d).1 k n)) (cases_eq k at)
 
     pub replaced_placed : Placed handled t len
     replaced_placed = record {
       fits = subst (λ n. len ≤ n) (sym long) p.fits;
+      few = p.few;
       below = λ d k l. let a = as_before d k in let b = p.below d k l in omega arith;
       short = λ d k l. let a = as_before d k in let b = p.short d k l in omega arith;
       kept = λ d k l. ap (place t d) (as_before d k) ∙ places d (handled (item s d k)) ∙ p.kept d k l;
@@ -34,16 +36,17 @@ module _ {T : Type 0} (handled : T → ℕ) where
         )
 
   -- x is added at the end, and nothing waited under its handle
-  module _ (s t : List (Slot T)) (len : ℕ) (x : T) (p : Placed handled s len) (long : length t ≡ length s) (room : len < length s) (fits : handled x < length s) (short : handled x < 4294967296) (free : waiting_in handled s len (handled x) ≡ None) (items : (d : Slot T) → Updated (item s d) (item t d) len x) (places : (d : Slot T) → Updated (place s d) (place t d) (handled x) len) where
+  module _ (s t : List (Slot T)) (len : ℕ) (x : T) (p : Placed handled s len) (long : length t ≡ length s) (room : len < length s) (fits : handled x < length s) (few : len < 4294967296) (short : handled x < 4294967296) (free : waiting_in handled s len (handled x) ≡ None) (items : (d : Slot T) → Updated (item s d) (item t d) len x) (places : (d : Slot T) → Updated (place s d) (place t d) (handled x) len) where
     kept_item : (d : Slot T) (k : ℕ) → k < len → item t d k ≡ item s d k
     kept_item d k l = (items d).1 k (λ e. omega arith)
 
     another : (d : Slot T) (k : ℕ) → k < len → handled (item s d k) ≡ handled x → ⊥
-    another d k l e = clash (waiting_in handled s len (handled x)) (item s d k) (ap (waiting_in handled s len) (sym e) ∙ found handled s len d k p l) free
+    another d k l e = cc (ap (waiting_in handled s len) (sym e) ∙ found handled s len d k p l)
 
     pub pushed_placed : Placed handled t (len + 1)
     pushed_placed = record {
       fits = omega arith;
+      few = omega arith;
       below = λ d k l. ⊎_elim
           (λ e. let a : handled (item t d k) ≡ handled x = ap handled (ap (item t d) e ∙ (items d).0) in omega arith)
           (λ n. let m : k < len = omega arith in let a = ap handled (kept_item d k m) in let b = p.below d k m in omega arith)
@@ -72,6 +75,7 @@ module _ {T : Type 0} (handled : T → ℕ) where
     pub cut_placed : Placed handled t last
     cut_placed = record {
       fits = let a = p.fits in omega arith;
+      few = let a = p.few in omega arith;
       below = λ d k l. p.below d k (omega arith);
       short = λ d k l. p.short d k (omega arith);
       kept = λ d k l. p.kept d k (omega arith);
@@ -103,23 +107,12 @@ module _ {T : Type 0} (handled : T → ℕ) where
   unfolding waiting_in
   none_waits s h = go (slice_get s h)
     where
-      go : (o : Option (Slot T)) → onward o (λ r. onward (slice_get (take 0 s) r.place) (λ t. bearing handled h t.item)) ≡ None
+      go : (o : Option (Slot T)) → option_and_then (λ r. option_and_then (λ t. bearing handled h t.item) (slice_get (take 0 s) r.place)) o ≡ None
       go None = refl
       go (Some r) = refl
 
   pub none_placed : (s : List (Slot T)) → Placed handled s 0
-  none_placed s = record { fits = omega arith; below = λ d k l. absurd (omega arith); short = λ d k l. absurd (omega arith); kept = λ d k l. absurd (omega arith) }
+  none_placed s = record { fits = omega arith; few = omega arith; below = λ d k l. absurd (omega arith); short = λ d k l. absurd (omega arith); kept = λ d k l. absurd (omega arith) }
 
   pub none_sound : (before : T → T → Bool) (s : List (Slot T)) → Sound handled before s 0
   none_sound before s = record { placed = none_placed s; heap = λ d p k c l. absurd (omega arith); counted = count_none (waiting_in handled s 0) (length s) (λ k l. none_waits s k) }
-
-  -- a heap put in order again
-  pub kept_sound : (before : T → T → Bool) (t u : List (Slot T)) (len : ℕ) → Kept handled t u len → ((d : Slot T) → Heap before (item u d) len) → count_of (waiting_in handled t len) (length t) ≡ len → Sound handled before u len
-  kept_sound before t u len k h c = record {
-    placed = k.placed;
-    heap = h;
-    counted = ap (count_of (waiting_in handled u len)) k.long ∙ count_same (waiting_in handled t len) (waiting_in handled u len) (length t) (λ i l. k.waits i) ∙ c;
-  }
-
-  pub kept_updated : {f : ℕ → Option T} {t u : List (Slot T)} {len h : ℕ} {w : Option T} → Updated f (waiting_in handled t len) h w → Kept handled t u len → Updated f (waiting_in handled u len) h w
-  kept_updated {h} a k = (k.waits h ∙ a.0, λ i n. k.waits i ∙ a.1 i n)

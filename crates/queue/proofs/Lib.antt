@@ -1,3 +1,4 @@
+pub mod Orders
 pub mod Writing
 pub mod Holding
 pub mod Sifting

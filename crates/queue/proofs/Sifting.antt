@@ -1,6 +1,7 @@
 -- Items rise and sink, and the top of a heap is its least. Assumes nothing.
 use Rattle.std.proofs.Common.{◌≡◌, ℕ, zero, suc, ◌+◌, ◌-◌, ◌*◌, ◌/◌, ◌<◌, ◌≤◌, Bool, true, false, refl, ap, ◌∙◌, ap₂, ⊎_elim, arith}
 use Rattle.std.proofs.lemmas.Bool.{cases_eq}
+use Rattle.std.specs.Cmp.{IsStrictWeakOrder}
 use Rattle.queue.specs.Room.{Swapped}
 use Rattle.queue.specs.Heap.{Child, Heap, Loose, Gap}
 
@@ -8,15 +9,21 @@ module _ {T : Type 0} (before : T → T → Bool) where
   both : {a b x y : T} → a ≡ x → b ≡ y → before x y ≡ false → before a b ≡ false
   both p q h = ap₂ before p q ∙ h
 
-  -- nothing is before j's parent any more
-  pub settles : (f : ℕ → T) (len j : ℕ) → Loose before f len j → ((p : ℕ) → Child p j → before (f j) (f p) ≡ false) → Gap before f len j
-  settles f len j h up = (λ p k c l n. ⊎_elim (λ e. both (ap f e) refl (up p (omega arith, omega arith))) (λ m. h.0 p k c l n m) (cases_eq k j), h.1)
+  -- what stands at j is not before its parent any more
+  pub settles : (f : ℕ → T) (len j : ℕ) → Loose before f len j → (0 < j → before (f j) (f ((j - 1) / 2)) ≡ false) → Gap before f len j
+  settles f len j h up = (
+    λ p k c l n.
+        let a = c.0 in
+        let b = c.1 in
+        ⊎_elim (λ e. both (ap f e) (ap f (let q : p ≡ (j - 1) / 2 = omega arith in q)) (up (omega arith))) (λ m. h.0 p k c l n m) (cases_eq k j),
+    h.1,
+  )
 
   -- without children
   pub rests : (f : ℕ → T) (len j : ℕ) → len ≤ j * 2 + 1 → Gap before f len j → Heap before f len
   rests f len j l h = λ p k c m. h.0 p k c m (let a = c.0 in let b = c.1 in λ e. omega arith)
 
-  module _ (oneway : (x y : T) → before x y ≡ true → before y x ≡ false) (chain : (x y z : T) → before x y ≡ false → before y z ≡ false → before x z ≡ false) where
+  module _ (o : IsStrictWeakOrder before) where
     -- one item written, below m
     pub loosens : (f g : ℕ → T) (len m j : ℕ) → Heap before f len → ((i : ℕ) → i < m → (i ≡ j → ⊥) → (i < len) × (g i ≡ f i)) → Loose before g m j
     loosens f g len m j h same = (
@@ -27,7 +34,7 @@ module _ {T : Type 0} (before : T → T → Bool) where
           let x = same k l (λ q. omega arith) in
           let y = same p (omega arith) (λ q. omega arith) in
           let u = x.0 in
-          both x.1 y.1 (chain (f k) (f j) (f p) (h j k e u) (h p j c (omega arith))),
+          both x.1 y.1 (o.chain (f k) (f j) (f p) (h j k e u) (h p j c (omega arith))),
     )
 
     -- the item at j has traded places with its parent q
@@ -50,7 +57,7 @@ module _ {T : Type 0} (before : T → T → Bool) where
               let up = h.0 p q e (omega arith) (λ z. omega arith) (λ z. omega arith) in
               ⊎_elim
               (λ w. both (ap g w ∙ s.0) (s.2 p (λ z. omega arith) (λ z. omega arith)) up)
-              (λ w. both (s.2 k w (λ z. omega arith)) (s.2 p (λ z. omega arith) (λ z. omega arith)) (chain (f k) (f q) (f p) (h.0 q k r m (λ z. omega arith) w) up))
+              (λ w. both (s.2 k w (λ z. omega arith)) (s.2 p (λ z. omega arith) (λ z. omega arith)) (o.chain (f k) (f q) (f p) (h.0 q k r m (λ z. omega arith) w) up))
               (cases_eq k j),
         )
 
@@ -59,7 +66,7 @@ module _ {T : Type 0} (before : T → T → Bool) where
     settled f len j c least t h = λ p k e l.
         let u = e.0 in
         let v = e.1 in
-        ⊎_elim (λ w. both refl (ap f w) (chain (f k) (f c) (f j) (least k (omega arith, omega arith) l) t)) (λ w. h.0 p k e l w) (cases_eq p j)
+        ⊎_elim (λ w. both refl (ap f w) (o.chain (f k) (f c) (f j) (least k (omega arith, omega arith) l) t)) (λ w. h.0 p k e l w) (cases_eq p j)
 
     -- the item at j has traded places with its child c
     pub sinks : (f g : ℕ → T) (len j c : ℕ) → Child j c → c < len → ((k : ℕ) → Child j k → k < len → before (f k) (f c) ≡ false) → before (f c) (f j) ≡ true → Swapped f g j c → Gap before f len j → Gap before g len c
@@ -71,7 +78,7 @@ module _ {T : Type 0} (before : T → T → Bool) where
               let v = r.1 in
               ⊎_elim
               (λ w. ⊎_elim
-              (λ z. both (ap g z ∙ s.1) (ap g w ∙ s.0) (oneway (f c) (f j) t))
+              (λ z. both (ap g z ∙ s.1) (ap g w ∙ s.0) (o.one_way (f c) (f j) t))
               (λ z. both (s.2 k (λ q. omega arith) z) (ap g w ∙ s.0) (least k (omega arith, omega arith) m))
               (cases_eq k c))
               (λ w. ⊎_elim
@@ -88,7 +95,7 @@ module _ {T : Type 0} (before : T → T → Bool) where
         )
 
     never : (x : T) (b : Bool) → before x x ≡ b → before x x ≡ false
-    never x true e = oneway x x e
+    never x true e = o.one_way x x e
     never x false e = e
 
     pub itself : (x : T) → before x x ≡ false
@@ -99,7 +106,7 @@ module _ {T : Type 0} (before : T → T → Bool) where
     down f len h (suc fuel) k a l =
         ⊎_elim
         (λ e. both (ap f e) refl (itself (f 0)))
-        (λ n. chain (f k) (f ((k - 1) / 2)) (f 0) (h ((k - 1) / 2) k (omega arith, omega arith) l) (down f len h fuel ((k - 1) / 2) (omega arith) (omega arith)))
+        (λ n. o.chain (f k) (f ((k - 1) / 2)) (f 0) (h ((k - 1) / 2) k (omega arith, omega arith) l) (down f len h fuel ((k - 1) / 2) (omega arith) (omega arith)))
         (cases_eq k 0)
 
     -- nothing is before the top

@@ -4,14 +4,21 @@ use Rattle.std.specs.Prelude.{◌≡◌, ℕ, ◌+◌, ◌*◌, ◌^◌, ◌<◌
 use Rattle.queue.specs.declared.slot.Slot.{Slot}
 use Rattle.queue.specs.declared.room.Room.{Room}
 use Rattle.queue.specs.Room.{item, place, held}
-use Rattle.queue.specs.Waiting.{waiting_in, count_of}
+use Rattle.queue.specs.Waiting.{waiting_in, Updated, count_of}
 
 -- each item's handle has a slot, which keeps the item's place
 pub record Placed {T : Type 0} (handled : T → ℕ) (s : List (Slot T)) (len : ℕ) : Type 0 where
   pub fits : len ≤ length s
+  pub few : len ≤ 2 ^ 32
   pub below : (d : Slot T) (k : ℕ) → k < len → handled (item s d k) < length s
   pub short : (d : Slot T) (k : ℕ) → k < len → handled (item s d k) < 2 ^ 32
   pub kept : (d : Slot T) (k : ℕ) → k < len → place s d (handled (item s d k)) ≡ k
+
+-- t is s, but x stands at `at`, and the slot of its handle keeps that
+pub record Put {T : Type 0} (handled : T → ℕ) (s t : List (Slot T)) (at : ℕ) (x : T) : Type 0 where
+  pub long : length t ≡ length s
+  pub items : (d : Slot T) → Updated (item s d) (item t d) at x
+  pub places : (d : Slot T) → Updated (place s d) (place t d) (handled x) at
 
 -- t keeps the same items waiting as s
 pub record Kept {T : Type 0} (handled : T → ℕ) (s t : List (Slot T)) (len : ℕ) : Type 0 where

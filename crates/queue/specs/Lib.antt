@@ -4,4 +4,3 @@ pub mod Waiting
 pub mod Heap
 pub mod Queues
 pub mod Entries
-pub mod Loads

@@ -23,7 +23,3 @@ place s d i = (slice_index_or s i d).place
 -- g is f, with what stands at i and at j exchanged
 abbrev pub Swapped : {X : Type 0} → (ℕ → X) → (ℕ → X) → ℕ → ℕ → Type 0
 Swapped f g i j = (g i ≡ f j) × (g j ≡ f i) × ((k : ℕ) → (k ≢ i) → (k ≢ j) → g k ≡ f k)
-
--- g is f
-abbrev pub Same : {X : Type 0} → (ℕ → X) → (ℕ → X) → Type 0
-Same f g = (k : ℕ) → g k ≡ f k

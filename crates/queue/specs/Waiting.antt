@@ -1,12 +1,8 @@
 -- What waits under each handle, the least of it, and how much there is. Assumes nothing.
 use Rattle.std.specs.Prelude.{◌≡◌, ℕ, zero, suc, ◌+◌, Bool, cond, List, take, Some, None, Option, ◌==◌, ◌≢◌}
 use Rattle.std.specs.List.{slice_get}
+use Rattle.std.specs.Option.{option_and_then, option_len}
 use Rattle.queue.specs.declared.slot.Slot.{Slot}
-
--- the answer of g at the answer of o
-abbrev pub onward : {X Y : Type 0} → Option X → (X → Option Y) → Option Y
-onward None g = None
-onward (Some x) g = g x
 
 -- an item where it bears the handle h
 abbrev pub bearing : {T : Type 0} → (T → ℕ) → ℕ → T → Option T
@@ -14,7 +10,7 @@ bearing handled h x = cond (handled x == h) (Some x) None
 
 -- what waits under h: the item at the place that slot h keeps, where that is below len and the item's handle is h
 unfoldable pub waiting_in : {T : Type 0} → (T → ℕ) → List (Slot T) → ℕ → ℕ → Option T
-waiting_in handled slots len h = onward (slice_get slots h) (λ s. onward (slice_get (take len slots) s.place) (λ t. bearing handled h t.item))
+waiting_in handled slots len h = option_and_then (λ s. option_and_then (λ t. bearing handled h t.item) (slice_get (take len slots) s.place)) (slice_get slots h)
 
 -- g is f, but w at h
 abbrev pub Updated : {X : Type 0} → (ℕ → X) → (ℕ → X) → ℕ → X → Type 0
@@ -36,12 +32,7 @@ unfoldable pub least_of : {X : Type 0} → (X → X → Bool) → (ℕ → Optio
 least_of before w zero = None
 least_of before w (suc n) = lesser before (least_of before w n) (w n)
 
--- one, where something waits
-abbrev pub one_for : {X : Type 0} → Option X → ℕ
-one_for None = 0
-one_for (Some x) = 1
-
 -- how many of the handles below n have something waiting
 unfoldable pub count_of : {X : Type 0} → (ℕ → Option X) → ℕ → ℕ
 count_of w zero = 0
-count_of w (suc n) = count_of w n + one_for (w n)
+count_of w (suc n) = count_of w n + option_len (w n)

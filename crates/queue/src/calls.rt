@@ -1,18 +1,17 @@
-// What a queue of keys is asked.
+// What a queue is asked.
 ghost use Rattle.std.specs.Prelude.{◌≡◌, ℕ, ◌+◌, ◌<◌, ◌≤◌, length, Some, None, ◌==◌};
-ghost use Rattle.queue.specs.Keys.{key_handle, key_before};
 ghost use Rattle.queue.specs.Queues.{capacity, waiting, waiting_count, Belongs};
-ghost use Rattle.queue.specs.Waiting.{Updated, Without, least_of, one_for};
+ghost use Rattle.queue.specs.Waiting.{Updated, Without, least_of};
+ghost use Rattle.std.specs.Option.{option_len};
 
-use crate::edits::{drop_out, look, put, take};
-use crate::key::Key;
+use crate::keyed::Keyed;
 use crate::queue::Queue;
 use crate::room::Room;
 use crate::slot::Slot;
 
-impl<'a> Queue<'a> {
+impl<'a, T: Keyed> Queue<'a, T> {
     // Whatever the slots hold, nothing waits yet.
-    pub fn new(slots: &'a mut [Slot<Key>]) -> Queue<'a>
+    pub fn new(slots: &'a mut [Slot<T>]) -> Queue<'a, T>
         ensures capacity { capacity result ≡ length slots.old }
         ensures none { (h : ℕ) → waiting result h ≡ None }
     {
@@ -41,22 +40,27 @@ impl<'a> Queue<'a> {
     }
 
     // What waits under the handle.
-    pub fn waiting(&self, handle: u32) -> Option<Key>
+    pub fn waiting(&self, handle: u32) -> Option<T>
         ensures what { result ≡ waiting self.now handle }
         ensures own { Belongs self.now }
     {
-        look(&self.room, handle)
+        let at = self.find(handle)?;
+        Some(self.room.slots[at].item)
     }
 
-    // The key waits under its junction, whatever waited there; past the capacity nothing changes.
-    pub fn set(&mut self, key: Key)
+    // x waits under its handle, whatever waited there; past the capacity nothing changes.
+    pub fn set(&mut self, x: T)
         ensures capacity { capacity self.new ≡ capacity self.old }
-        ensures below { key.junction < capacity self.old → Updated (waiting self.old) (waiting self.new) key.junction (Some key) }
-        ensures past { capacity self.old ≤ key.junction → (h : ℕ) → waiting self.new h ≡ waiting self.old h }
+        ensures below { T.handled x < capacity self.old → Updated (waiting self.old) (waiting self.new) (T.handled x) (Some x) }
+        ensures past { capacity self.old ≤ T.handled x → (h : ℕ) → waiting self.new h ≡ waiting self.old h }
         ensures count { waiting_count self.new ≤ waiting_count self.old + 1 }
     {
-        if (key.junction as usize) < self.capacity() {
-            put(&mut self.room, key);
+        let handle = x.handle();
+        if (handle as usize) < self.capacity() {
+            match self.find(handle) {
+                Some(at) => self.replace(at, x),
+                None => self.push(x),
+            }
         }
     }
 
@@ -66,16 +70,24 @@ impl<'a> Queue<'a> {
         ensures none { Updated (waiting self.old) (waiting self.new) handle None }
         ensures count { waiting_count self.new ≤ waiting_count self.old }
     {
-        drop_out(&mut self.room, handle);
+        if let Some(at) = self.find(handle) {
+            self.remove_at(at);
+        }
     }
 
     // The least of what waits, which waits no more.
-    pub fn take_least(&mut self) -> Option<Key>
+    pub fn take_least(&mut self) -> Option<T>
         ensures capacity { capacity self.new ≡ capacity self.old }
-        ensures least { result ≡ least_of key_before (waiting self.old) (capacity self.old) }
-        ensures without { Without key_handle (waiting self.old) (waiting self.new) result }
-        ensures count { waiting_count self.new + one_for result ≡ waiting_count self.old }
+        ensures least { result ≡ least_of T.before (waiting self.old) (capacity self.old) }
+        ensures without { Without T.handled (waiting self.old) (waiting self.new) result }
+        ensures count { waiting_count self.new + option_len result ≡ waiting_count self.old }
     {
-        take(&mut self.room)
+        if self.room.len == 0 {
+            return None;
+        }
+        let top = 0;
+        let least = self.room.slots[top].item;
+        self.remove_at(top);
+        Some(least)
     }
 }

@@ -1,128 +1,60 @@
-// What a room is asked to do, for every element.
-ghost use Rattle.std.specs.Prelude.{◌≡◌, ◌<◌, length, Some, None, MatchOption};
-ghost use Rattle.queue.specs.Room.{item, held, queued};
-ghost use Rattle.queue.specs.Waiting.{Updated, Without, least_of};
-ghost use Rattle.queue.specs.Heap.{Whole};
+// Where an item of a queue stands, and how it changes, comes and leaves.
+ghost use Rattle.std.specs.Prelude.{◌≡◌, ◌^◌, ◌<◌, Some, None, IfSome, MatchOption};
+ghost use Rattle.queue.specs.Queues.{capacity, waiting};
+ghost use Rattle.queue.specs.Room.{item, held};
+ghost use Rattle.queue.specs.Waiting.{Updated};
 
 use crate::keyed::Keyed;
-use crate::moves::{repair, swap};
-use crate::room::Room;
+use crate::queue::Queue;
 use crate::slot::Slot;
-use crate::writes::{put_item, put_place};
 
-// Where the item with this handle stands.
-pub(crate) fn find<T: Keyed>(room: &Room<'_, T>, handle: u32) -> Option<usize>
-    requires { Whole T.Keyed.handled T.Keyed.before room.now }
-    ensures { MatchOption result (queued T.Keyed.handled room.now handle ≡ None) (λ p. (p < room.now.len) × ((d : Slot T) → queued T.Keyed.handled room.now handle ≡ Some (item (held room.now) d p))) }
-{
-    let slots = &*room.slots;
-    let at = handle as usize;
-    if at >= slots.len() {
-        return None;
+impl<T: Keyed> Queue<'_, T> {
+    // Where the item with this handle stands.
+    pub(crate) fn find(&self, handle: u32) -> Option<usize>
+        ensures inside { IfSome result (λ p. p < self.now.room.len) }
+        ensures what { MatchOption result (waiting self.now handle ≡ None) (λ p. (d : Slot T) → waiting self.now handle ≡ Some (item (held self.now.room) d p)) }
+    {
+        let slots = &*self.room.slots;
+        let place = slots.get(handle as usize)?.place as usize;
+        (place < self.room.len && slots[place].item.handle() == handle).then_some(place)
     }
-    let place = slots[at].place as usize;
-    if place < room.len && slots[place].item.handle() == handle {
-        Some(place)
-    } else {
-        None
+
+    // x takes the place of the item at `at`, which has the same handle.
+    pub(crate) fn replace(&mut self, at: usize, x: T)
+        requires inside { at < self.old.room.len }
+        requires own { (d : Slot T) → waiting self.old (T.handled x) ≡ Some (item (held self.old.room) d at) }
+        ensures capacity { capacity self.new ≡ capacity self.old }
+        ensures updated { Updated (waiting self.old) (waiting self.new) (T.handled x) (Some x) }
+    {
+        self.room.put(at, x);
+        self.room.repair(at);
     }
-}
 
-// What waits under a handle.
-pub(crate) fn look<T: Keyed>(room: &Room<'_, T>, handle: u32) -> Option<T>
-    requires { Whole T.Keyed.handled T.Keyed.before room.now }
-    ensures { result ≡ queued T.Keyed.handled room.now handle }
-{
-    let at = find(room, handle)?;
-    let slots = &*room.slots;
-    Some(slots[at].item)
-}
-
-// x takes the place of the item at `at`, which has the same handle.
-pub(crate) fn replace<T: Keyed>(room: &mut Room<'_, T>, at: usize, x: T)
-    requires whole { Whole T.Keyed.handled T.Keyed.before room.old }
-    requires inside { at < room.old.len }
-    requires own { (d : Slot T) → queued T.Keyed.handled room.old (T.Keyed.handled x) ≡ Some (item (held room.old) d at) }
-    ensures long { length (held room.new) ≡ length (held room.old) }
-    ensures whole { Whole T.Keyed.handled T.Keyed.before room.new }
-    ensures updated { Updated (queued T.Keyed.handled room.old) (queued T.Keyed.handled room.new) (T.Keyed.handled x) (Some x) }
-{
-    put_item(room.slots, at, x);
-    repair(room, at);
-}
-
-// x joins the others; nothing waited under its handle.
-pub(crate) fn push<T: Keyed>(room: &mut Room<'_, T>, x: T)
-    requires whole { Whole T.Keyed.handled T.Keyed.before room.old }
-    requires fits { T.Keyed.handled x < length (held room.old) }
-    requires free { queued T.Keyed.handled room.old (T.Keyed.handled x) ≡ None }
-    ensures long { length (held room.new) ≡ length (held room.old) }
-    ensures whole { Whole T.Keyed.handled T.Keyed.before room.new }
-    ensures updated { Updated (queued T.Keyed.handled room.old) (queued T.Keyed.handled room.new) (T.Keyed.handled x) (Some x) }
-{
-    let handle = x.handle();
-    let last = room.len;
-    put_item(room.slots, last, x);
-    put_place(room.slots, handle as usize, last as u32);
-    room.len = last + 1;
-    repair(room, last);
-}
-
-// x waits under its handle, whatever waited there.
-pub(crate) fn put<T: Keyed>(room: &mut Room<'_, T>, x: T)
-    requires whole { Whole T.Keyed.handled T.Keyed.before room.old }
-    requires fits { T.Keyed.handled x < length (held room.old) }
-    ensures long { length (held room.new) ≡ length (held room.old) }
-    ensures whole { Whole T.Keyed.handled T.Keyed.before room.new }
-    ensures updated { Updated (queued T.Keyed.handled room.old) (queued T.Keyed.handled room.new) (T.Keyed.handled x) (Some x) }
-{
-    match find(room, x.handle()) {
-        Some(at) => replace(room, at, x),
-        None => push(room, x),
+    // x joins the others; nothing waited under its handle.
+    pub(crate) fn push(&mut self, x: T)
+        requires fits { T.handled x < capacity self.old }
+        requires short { T.handled x < 2 ^ 32 }
+        requires free { waiting self.old (T.handled x) ≡ None }
+        ensures capacity { capacity self.new ≡ capacity self.old }
+        ensures updated { Updated (waiting self.old) (waiting self.new) (T.handled x) (Some x) }
+    {
+        let last = self.room.len;
+        self.room.put(last, x);
+        self.room.len = last + 1;
+        self.room.repair(last);
     }
-}
 
-// The item at `at` leaves.
-pub(crate) fn remove_at<T: Keyed>(room: &mut Room<'_, T>, at: usize)
-    requires whole { Whole T.Keyed.handled T.Keyed.before room.old }
-    requires inside { at < room.old.len }
-    ensures long { length (held room.new) ≡ length (held room.old) }
-    ensures whole { Whole T.Keyed.handled T.Keyed.before room.new }
-    ensures updated { (d : Slot T) → Updated (queued T.Keyed.handled room.old) (queued T.Keyed.handled room.new) (T.Keyed.handled (item (held room.old) d at)) None }
-{
-    let last = room.len - 1;
-    swap(room, at, last);
-    room.len = last;
-    if at < last {
-        repair(room, at);
+    // The item at `at` leaves.
+    pub(crate) fn remove_at(&mut self, at: usize)
+        requires inside { at < self.old.room.len }
+        ensures capacity { capacity self.new ≡ capacity self.old }
+        ensures updated { (d : Slot T) → Updated (waiting self.old) (waiting self.new) (T.handled (item (held self.old.room) d at)) None }
+    {
+        let last = self.room.len - 1;
+        self.room.swap(at, last);
+        self.room.len = last;
+        if at < last {
+            self.room.repair(at);
+        }
     }
-}
-
-// Nothing waits under the handle any more.
-pub(crate) fn drop_out<T: Keyed>(room: &mut Room<'_, T>, handle: u32)
-    requires { Whole T.Keyed.handled T.Keyed.before room.old }
-    ensures long { length (held room.new) ≡ length (held room.old) }
-    ensures whole { Whole T.Keyed.handled T.Keyed.before room.new }
-    ensures updated { Updated (queued T.Keyed.handled room.old) (queued T.Keyed.handled room.new) handle None }
-{
-    if let Some(at) = find(room, handle) {
-        remove_at(room, at);
-    }
-}
-
-// The least of what waits leaves.
-pub(crate) fn take<T: Keyed>(room: &mut Room<'_, T>) -> Option<T>
-    requires { Whole T.Keyed.handled T.Keyed.before room.old }
-    ensures long { length (held room.new) ≡ length (held room.old) }
-    ensures whole { Whole T.Keyed.handled T.Keyed.before room.new }
-    ensures least { result ≡ least_of T.Keyed.before (queued T.Keyed.handled room.old) (length (held room.old)) }
-    ensures without { Without T.Keyed.handled (queued T.Keyed.handled room.old) (queued T.Keyed.handled room.new) result }
-{
-    if room.len == 0 {
-        return None;
-    }
-    let top = 0;
-    let least = room.slots[top].item;
-    remove_at(room, top);
-    Some(least)
 }

@@ -1,37 +1,27 @@
 // What waits for a junction.
 ghost use Rattle.queue.specs.Keys.{key_handle, key_before};
-ghost use Rattle.std.proofs.Common.{rules};
+ghost use Rattle.std.proofs.Common.{arith};
+ghost use Rattle.std.proofs.lemmas.Bool.Decides.{nat_tests};
 
 use crate::keyed::Keyed;
 
-// A height, and the junction, which is the key's handle.
-#[derive(Clone, Copy)]
+// A height, and the junction, which is the key's handle: ordered by height, and of equal heights by junction.
+#[derive(Clone, Copy, PartialEq, Eq, PartialOrd, Ord)]
 pub struct Key {
     pub height: u64,
     pub junction: u32,
 }
 
-// By height, and of equal heights by junction.
 impl Keyed for Key {
     ghost handled = { key_handle };
 
     ghost before = { key_before };
 
-    ghost oneway = { Prim.search rules };
+    ghost ordered = { λ k l. Prim.grind (arith, nat_tests) };
 
-    ghost chain = { Prim.search rules };
-
-    ghost total = { Prim.search rules };
+    ghost level = { λ k l e. Prim.grind (arith, nat_tests) };
 
     fn handle(&self) -> u32 {
         self.junction
-    }
-
-    fn less(&self, other: &Key) -> bool {
-        if self.height == other.height {
-            self.junction < other.junction
-        } else {
-            self.height < other.height
-        }
     }
 }

@@ -1,9 +1,10 @@
-// What can wait in a queue: an element with a handle, the number that it waits under, and an order.
-ghost use Rattle.std.specs.Prelude.{◌≡◌, ℕ, Bool, true, false};
+// What can wait in a queue: an element with an order, and a handle, the number that it waits under.
+ghost use Rattle.std.specs.Prelude.{◌≡◌, ℕ, Bool, true};
+ghost use Rattle.std.specs.Ordering.{is_eq, is_lt};
 
-// Any total order will do; of two elements with different handles one has to be before the other. The chain is put by
-// what is not before, so that elements which differ only in what they carry may be level.
-pub trait Keyed: Copy {
+// Any total order will do in which elements of different handles are never level. `before` says the order in words of
+// the element's own, for the contracts.
+pub trait Keyed: Copy + Ord {
     ghost handled: { Self → ℕ };
 
     ghost before: { Self → Self → Bool };
@@ -11,12 +12,7 @@ pub trait Keyed: Copy {
     fn handle(&self) -> u32
         ensures { result ≡ handled self.now };
 
-    fn less(&self, other: &Self) -> bool
-        ensures { result ≡ before self.now other.now };
+    ghost ordered: { (x y : Self) → is_lt (Self.cmp x y) ≡ before x y };
 
-    ghost oneway: { (x y : Self) → before x y ≡ true → before y x ≡ false };
-
-    ghost chain: { (x y z : Self) → before x y ≡ false → before y z ≡ false → before x z ≡ false };
-
-    ghost total: { (x y : Self) → before x y ≡ false → before y x ≡ false → handled x ≡ handled y };
+    ghost level: { (x y : Self) → is_eq (Self.cmp x y) ≡ true → handled x ≡ handled y };
 }

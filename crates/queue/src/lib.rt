@@ -6,17 +6,13 @@ mod edits;
 mod entry;
 mod key;
 mod keyed;
-mod load_calls;
-mod load_queue;
 mod moves;
 mod queue;
 mod room;
 mod slot;
-mod writes;
 
 pub use entry::Entry;
 pub use key::Key;
 pub use keyed::Keyed;
-pub use load_queue::LoadQueue;
 pub use queue::Queue;
 pub use slot::Slot;

@@ -1,12 +1,12 @@
-// A queue of keys: its slots keep a heap in every state that a caller sees.
+// A queue: its slots keep a heap in every state that a caller sees.
+ghost use Rattle.std.proofs.Props.{props};
 ghost use Rattle.queue.specs.Heap.{Whole};
-ghost use Rattle.queue.specs.Keys.{key_handle, key_before};
 
-use crate::key::Key;
+use crate::keyed::Keyed;
 use crate::room::Room;
 
 #[derive(Drop)]
-pub struct Queue<'a> {
-    pub(crate) room: Room<'a, Key>,
-    ghost whole: { ∥ Whole key_handle key_before room ∥₁ },
+pub struct Queue<'a, T: Keyed> {
+    pub(crate) room: Room<'a, T>,
+    ghost whole: { Whole T.handled T.before room } by { Prim.hlevel props },
 }

@@ -1,9 +1,10 @@
 // Why an asking or a tracing is refused.
+ghost use Rattle.std.specs.Prelude.{◌≡◌};
 ghost use Rattle.soonest.specs.Faults.{ask_fault, trace_fault};
 
-use network::{Fault, Places, Refusal};
+use network::Refusal;
 
-#[derive(Clone, Copy)]
+#[derive(Clone, Copy, PartialEq, Eq, Debug)]
 pub enum AskFault {
     Junction,
     Start,
@@ -12,7 +13,7 @@ pub enum AskFault {
     Sites,
 }
 
-#[derive(Clone, Copy)]
+#[derive(Clone, Copy, PartialEq, Eq, Debug)]
 pub enum TraceFault {
     Junction,
     Start,
@@ -21,38 +22,30 @@ pub enum TraceFault {
     Blocked,
 }
 
-impl Fault for AskFault {
-    ghost meaning = { ask_fault };
+impl From<AskFault> for Refusal {
+    ghost from_gives = { λ fault said. said ≡ ask_fault fault };
 
-    fn refusal(&self) -> Refusal {
-        let number = match self {
+    fn from(fault: AskFault) -> Refusal {
+        Refusal::of_call(match fault {
             AskFault::Junction => 14,
             AskFault::Start => 15,
             AskFault::Number => 16,
             AskFault::Room => 17,
             AskFault::Sites => 34,
-        };
-        Refusal {
-            number,
-            places: Places::Call,
-        }
+        })
     }
 }
 
-impl Fault for TraceFault {
-    ghost meaning = { trace_fault };
+impl From<TraceFault> for Refusal {
+    ghost from_gives = { λ fault said. said ≡ trace_fault fault };
 
-    fn refusal(&self) -> Refusal {
-        let number = match self {
+    fn from(fault: TraceFault) -> Refusal {
+        Refusal::of_call(match fault {
             TraceFault::Junction => 14,
             TraceFault::Start => 15,
             TraceFault::Room => 17,
             TraceFault::NoWay => 38,
             TraceFault::Blocked => 39,
-        };
-        Refusal {
-            number,
-            places: Places::Call,
-        }
+        })
     }
 }

@@ -1,4 +1,5 @@
-pub mod Refusing
-pub mod Backwards
 pub mod Driven
+pub mod Folded
+pub mod Backwards
+pub mod Refusing
 pub mod Outcomes

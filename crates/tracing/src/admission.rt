@@ -20,9 +20,7 @@ pub(crate) fn admit<N: Network>(
     if from >= junctions || to >= junctions {
         return Err(TraceFault::Junction);
     }
-    let Some(start) = network.start(number) else {
-        return Err(TraceFault::Start);
-    };
+    let start = network.start(number).ok_or(TraceFault::Start)?;
     if ways < junctions as usize || arcs < junctions as usize - 1 {
         return Err(TraceFault::Room);
     }

@@ -9,9 +9,6 @@ use network::Network;
 pub(crate) fn drive<N: Network>(network: &N, start: N::Reading, arcs: &[u32]) -> Option<N::Reading>
     ensures { option_map (N.Network.height network.now) result ≡ along (N.Network.roads network.now) (N.Network.height network.now start) arcs.now }
 {
-    let mut reading = start;
-    for arc in arcs {
-        reading = network.carry(*arc, reading)?;
-    }
-    Some(reading)
+    arcs.iter()
+        .try_fold(start, |reading, arc| network.carry(*arc, reading))
 }

@@ -7,5 +7,5 @@ pub(crate) fn put_in_front(list: &mut [u32], arcs: &[u32])
     requires { length arcs.now ≤ length list.old }
     ensures { InFront arcs.now list.old list.new }
 {
-    list[0..arcs.len()].copy_from_slice(arcs);
+    list[..arcs.len()].copy_from_slice(arcs);
 }

@@ -11,11 +11,8 @@ use crate::front::put_in_front;
 use network::Network;
 use soonest::TraceFault;
 
-// Roads have at most so many, and a way back has fewer arcs than they have junctions.
-const MOST_JUNCTIONS: usize = 4096;
-
 // How many arcs were traced, and the reading that arrives.
-#[derive(Clone, Copy)]
+#[derive(Clone, Copy, PartialEq, Eq, Debug)]
 pub struct Traced<R> {
     pub count: u32,
     pub reading: R,
@@ -36,16 +33,9 @@ pub fn trace<N: Network>(
     ensures path { IfOk result (λ t. Drives (N.Network.roads network.now) from number to (take t.count arcs.new) (N.Network.height network.now t.reading)) }
 {
     let start = admit(network, from, number, to, ways.len(), arcs.len())?;
-    let mut room = [0u32; MOST_JUNCTIONS];
-    let chain = &mut room[0..network.junctions() as usize - 1];
-    let Some(first) = follow(network, from, to, ways, chain) else {
-        return Err(TraceFault::NoWay);
-    };
-    let trail = &chain[first..];
-    let Some(reading) = drive(network, start, trail) else {
-        return Err(TraceFault::Blocked);
-    };
-    put_in_front(arcs, trail);
+    let trail = follow(network, from, to, ways).ok_or(TraceFault::NoWay)?;
+    let reading = drive(network, start, trail.as_slice()).ok_or(TraceFault::Blocked)?;
+    put_in_front(arcs, trail.as_slice());
     Ok(Traced {
         count: trail.len() as u32,
         reading,

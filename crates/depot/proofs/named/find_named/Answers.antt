@@ -1,18 +1,12 @@
-use Rattle.std.proofs.Common.{sym, ◌∙◌}
-use Rattle.std.proofs.lemmas.Slice.Eq.{slice_eq-Decides}
-use Rattle.std.proofs.lemmas.Bool.Decides.{Decides-like, Decides-eqb}
-use Rattle.depot.proofs.Lookup.{has_name, other_name, no_name}
+use Rattle.std.proofs.Common.{Bool, ◌∙◌, rules, tests}
+use Rattle.std.specs.Str.{bytes_eq}
+use Rattle.std.proofs.lemmas.Iterator.{YieldsList-from_slice}
+use Rattle.std.proofs.lemmas.Iterator.Search.{find_from_yields_List}
 use Rattle.depot.proofs.named.find_named.Goals as goal
 
-pub returns-then-eq : goal.returns-then-eq
-returns-then-eq g c =
-    let e = c.name.ensures in
-    sym (has_name g.T.Named.called c.args.all.now c.args.name.now c.loop-one.one-index c.one-item.result c.eq.result c.loop-one-test.true c.one-item.is (Decides-like c.eq.result (λ p. p ∙ e) (λ p. p ∙ sym e) (slice_eq-Decides Decides-eqb _ _ _ c.eq.ensures)) c.if-eq.true) ∙ c.loop-one.invariant
-
-pub loop-one-preserved : goal.loop-one-preserved
-loop-one-preserved g c =
-    let e = c.name.ensures in
-    sym (other_name g.T.Named.called c.args.all.now c.args.name.now c.loop-one.one-index c.one-item.result c.eq.result c.loop-one-test.true c.one-item.is (Decides-like c.eq.result (λ p. p ∙ e) (λ p. p ∙ sym e) (slice_eq-Decides Decides-eqb _ _ _ c.eq.ensures)) c.if-eq.false) ∙ c.loop-one.invariant
-
 pub returns : goal.returns
-returns g c = sym (no_name g.T.Named.called c.args.all.now c.args.name.now c.loop-one.one-index c.loop-one-test.false) ∙ c.loop-one.invariant
+returns g c =
+    let all = c.args.all.now in
+    let test : g.row.T.Denot → Bool = λ x. bytes_eq c.args.name.now (g.T.Named.called x) in
+    let found = find_from_yields_List test _ _ c.find.result c.find.ensures.ran (YieldsList-from_slice all (cc)) (λ x b q k. search (rules, tests)) in
+    c.copied.ensures ∙ found

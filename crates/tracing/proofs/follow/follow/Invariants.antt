@@ -7,7 +7,7 @@ use Rattle.tracing.proofs.follow.follow.Given as goal
 abbrev pub invariant-loop-at : goal.invariant-loop-at
 invariant-loop-at g l =
     let m = g.N.Network.roads l.network in
-    (l.first ≤ length l.chain) × (l.at < m.junctions) × (so_far m (way_in l.ways) l.from l.chain l.first l.at ≡ back m (way_in l.ways) l.from (m.junctions - 1) l.initial.at)
+    (length l.trail.items ≤ l.most) × (l.at < m.junctions) × (so_far m (way_in l.ways) l.from l.trail.items (l.most - length l.trail.items) l.at ≡ back m (way_in l.ways) l.from l.most l.initial.at)
 
 abbrev pub decreases-loop-at : goal.decreases-loop-at
-decreases-loop-at g l = l.first
+decreases-loop-at g l = l.most - length l.trail.items

@@ -1,29 +1,33 @@
-use Rattle.std.proofs.Common.{◌≡◌, suc, ◌+◌, ◌<◌, get_or, Some, None, sym, refl, ap, ◌∙◌, add-one, arith}
-use Rattle.std.proofs.lemmas.Bool.{lt-ltb, le-ltb}
+use Rattle.std.proofs.Common.{◌≡◌, suc, ◌<◌, ◌≤◌, length, get_or, Some, None, sym, refl, ap, ◌∙◌, add-one, arith}
+use Rattle.std.specs.Result.{result_ok}
+use Rattle.std.proofs.lemmas.Grind.{common_steps}
 use Rattle.network.specs.Refused.{refusal}
 use Rattle.network.specs.declared.refusals.Places.TheVariants.{Call as the_call}
 use Rattle.board.specs.Held.{board_table}
-use Rattle.board.proofs.Boards.{there, not_there, free_is, out_is, written, no_such_site, no_free_bay, may_hold, held_so}
+use Rattle.board.proofs.Boards.{no_such_site, no_free_bay, may_hold, out_is, same_entry, with_entry_is, held_so}
 use Rattle.soonest.proofs.Listing.{soonest_listed}
 use Rattle.board.proofs.Promised.{promise_from}
 use Rattle.board.proofs.board.Board.hold.Goals as goal
 
-pub returns-then-site-self : goal.returns-then-site-self
-returns-then-site-self c =
+pub returns-in_err-at : goal.returns-in_err-at
+returns-in_err-at c =
     let b = c.args.self.now in
     let t = board_table b in
     let s = c.args.site in
-    let x = held_so t s t _ (Some (refusal 18 the_call)) (no_such_site t s (not_there b s (omega arith))) refl refl in
+    let far : length b.table.items ≤ s = grind (arith, common_steps, c.get_mut.ensures.variant, c.ok_or.ensures.variant, c.in_err-at.was) in
+    let x = held_so t s t _ (Some (refusal 18 the_call)) (no_such_site b s far) (grind (arith, common_steps, c.from_residual.ensures, c.ok_or.ensures.value, c.in_err-at.was)) refl in
     record { answer = x.0; table = x.1; throughout = x.2; promise = promise_from soonest_listed }
 
-pub returns-then-self-site : goal.returns-then-self-site
-returns-then-self-site c =
+pub returns-then-at : goal.returns-then-at
+returns-then-at c =
     let b = c.args.self.now in
     let t = board_table b in
     let s = c.args.site in
-    let l : s < b.table.sites = omega arith in
-    let full = free_is b s l ∙ le-ltb (get_or b.table.out s 0) (get_or b.table.bays s 0) (omega arith) in
-    let x = held_so t s t _ (Some (refusal 31 the_call)) (no_free_bay t s (there b s l) full) refl refl in
+    let y = c.in_ok-at.at.now in
+    let o = c.ok_or.ensures.ok_part ∙ ap result_ok c.in_ok-at.was in
+    let l : s < length b.table.items = grind (arith, common_steps, c.get_mut.ensures.variant, c.ok_or.ensures.variant, c.in_ok-at.was) in
+    let is : y ≡ get_or b.table.items s y = grind (arith, common_steps, c.get_mut.ensures.value, o) in
+    let x = held_so t s _ _ (Some (refusal 31 the_call)) (no_free_bay b s y l is (omega arith)) refl (same_entry b s y is) in
     record { answer = x.0; table = x.1; throughout = x.2; promise = promise_from soonest_listed }
 
 pub returns : goal.returns
@@ -32,10 +36,9 @@ returns c =
     let b = c.args.self.now in
     let t = board_table b in
     let s = c.args.site in
-    let l : s < b.table.sites = omega arith in
-    let free = free_is b s l ∙ lt-ltb (get_or b.table.out s 0) (get_or b.table.bays s 0) (omega arith) in
-    let few = b.few in
-    let long = b.room.1 in
-    let more : get_or b.table.out s 0 + 1 ≡ suc (t.out s) = add-one (get_or b.table.out s 0) ∙ ap suc (sym (out_is b s l)) in
-    let x = held_so t s _ _ None (may_hold t s (there b s l) free) refl (written b.number b.table.sites t.bays b.table.out s (get_or b.table.out s 0 + 1) (suc (t.out s)) l (omega arith) more) in
+    let y = c.in_ok-at.at.now in
+    let o = c.ok_or.ensures.ok_part ∙ ap result_ok c.in_ok-at.was in
+    let l : s < length b.table.items = grind (arith, common_steps, c.get_mut.ensures.variant, o) in
+    let is : y ≡ get_or b.table.items s y = grind (arith, common_steps, c.get_mut.ensures.value, o) in
+    let x = held_so t s _ _ None (may_hold b s y l is (omega arith)) refl (with_entry_is b s y l is _ (suc (t.out s)) refl (add-one y.out ∙ ap suc (sym (out_is b s y l is)))) in
     record { answer = x.0; table = x.1; throughout = x.2; promise = promise_from soonest_listed }

@@ -1,4 +1,4 @@
-use Rattle.std.proofs.Common.{leb, sym, ap, ◌∙◌, ⊎_elim, arith}
+use Rattle.std.proofs.Common.{sym, ap, ◌∙◌, ⊎_elim, arith}
 use Rattle.std.proofs.lemmas.Bool.{le-leb}
 use Rattle.network.proofs.First.{provided_true}
 use Rattle.clock.specs.Model.{clock_carry}
@@ -20,7 +20,7 @@ enter-requires c =
     let s = c.args.self.now in
     let e = s.streets.heads.ok.0 in
     record {
-      open_arc = rw (c.as_slice.ensures.value, c.as_slice-2.ensures.value, c.as_slice-3.ensures.value) (roads_open s c.args.arc (omega arith));
+      open_arc = rw (c.deref.ensures.value, c.deref-2.ensures.value, c.deref-3.ensures.value) (roads_open s c.args.arc (omega arith));
       early = c.if-t-gt-LAST_DEPARTURE.false;
     }
 
@@ -28,6 +28,6 @@ pub returns : goal.returns
 returns c =
     let s = c.args.self.now in
     let e = s.streets.heads.ok.0 in
-    let given = rw (c.as_slice.ensures.value, c.as_slice-2.ensures.value, c.as_slice-3.ensures.value) at c.enter.ensures in
+    let given = rw (c.deref.ensures.value, c.deref-2.ensures.value, c.deref-3.ensures.value) at c.enter.ensures in
     let k = roads_carry s c.args.arc c.value-t.result c.enter.result (omega arith) c.if-t-gt-LAST_DEPARTURE.false given in
-    c.new.ensures ∙ provided_true (leb c.enter.result 172800) c.enter.result (le-leb c.enter.result 172800 k.1) ∙ sym k.0 ∙ ap (λ h. clock_carry (road_lists s) c.args.arc h) c.value-t.ensures
+    c.new.ensures ∙ provided_true _ _ (le-leb _ _ k.1) ∙ sym k.0 ∙ ap (λ h. clock_carry (road_lists s) c.args.arc h) c.value-t.ensures

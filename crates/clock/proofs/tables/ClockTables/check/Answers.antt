@@ -1,58 +1,20 @@
-use Rattle.std.proofs.Common.{vec_items, sym, ◌∙◌, arith}
-use Rattle.std.proofs.lemmas.Result.{err_from_is_err_and}
-use Rattle.network.specs.Lists.{arcs_refusal}
-use Rattle.network.specs.Refused.{street_refusal}
+use Rattle.std.proofs.Common.{sym, arith}
 use Rattle.network.proofs.First.{none_is}
 use Rattle.network.proofs.Refusing.{arcs_say}
-use Rattle.clock.specs.Faults.{table_fault}
-use Rattle.clock.specs.Held.{table_lists}
-use Rattle.clock.specs.Timed.{table_arcs, table_points, table_sites}
 use Rattle.clock.proofs.tables.ClockTables.check.Goals as goal
 
-pub returns-in_err-check_arcs : goal.returns-in_err-check_arcs
-returns-in_err-check_arcs c =
-    let p = err_from_is_err_and c.from_residual.result c.from_residual.ensures.1 in
+pub check-requires : goal.check-requires
+check-requires c =
     let s = c.args.self.now in
-    let given = rw (c.as_slice.ensures.value, c.as_slice-2.ensures.value) at c.in_err-check_arcs.ensures in
-    rw (p.1, p.2) (sym (table_arcs (table_lists s) (street_refusal c.in_err-check_arcs.field-0.0) (sym given)))
-
-pub check_points-requires : goal.check_points-requires
-check_points-requires c =
-    let s = c.args.self.now in
-    let arcs = sym (rw (c.as_slice.ensures.value, c.as_slice-2.ensures.value) at c.in_ok-check_arcs.ensures) in
-    let k = arcs_say (vec_items s.starts) (vec_items s.heads) (none_is (arcs_refusal (vec_items s.starts) (vec_items s.heads)) arcs) in
+    let arcs = sym (rw (c.deref.ensures.value, c.deref-2.ensures.value) at c.in_ok-check_arcs.ensures) in
+    let k = arcs_say _ _ (none_is _ arcs) in
     let e = s.heads.ok.0 in
     omega arith
-
-pub returns-in_err-check_points : goal.returns-in_err-check_points
-returns-in_err-check_points c =
-    let p = err_from_is_err_and c.from_residual-in_err-check_points.result c.from_residual-in_err-check_points.ensures.1 in
-    let s = c.args.self.now in
-    let arcs = sym (rw (c.as_slice.ensures.value, c.as_slice-2.ensures.value) at c.in_ok-check_arcs.ensures) in
-    let points = sym (rw (c.len.ensures, s.heads.ok.0, c.as_slice-3.ensures.value, c.as_slice-4.ensures.value, c.as_slice-5.ensures.value) at c.in_err-check_points.ensures) in
-    rw (p.1, p.2) (sym (table_points (table_lists s) (table_fault c.in_err-check_points.field-0.0) arcs points))
 
 pub overflow_sub-len : goal.overflow_sub-len
 overflow_sub-len c =
     let s = c.args.self.now in
-    let arcs = sym (rw (c.as_slice.ensures.value, c.as_slice-2.ensures.value) at c.in_ok-check_arcs.ensures) in
-    let k = arcs_say (vec_items s.starts) (vec_items s.heads) (none_is (arcs_refusal (vec_items s.starts) (vec_items s.heads)) arcs) in
+    let arcs = sym (rw (c.deref.ensures.value, c.deref-2.ensures.value) at c.in_ok-check_arcs.ensures) in
+    let k = arcs_say _ _ (none_is _ arcs) in
     let e = s.starts.ok.0 in
     omega arith
-
-pub returns-in_err-check_sites : goal.returns-in_err-check_sites
-returns-in_err-check_sites c =
-    let p = err_from_is_err_and c.from_residual-in_err-check_sites.result c.from_residual-in_err-check_sites.ensures.1 in
-    let s = c.args.self.now in
-    let arcs = sym (rw (c.as_slice.ensures.value, c.as_slice-2.ensures.value) at c.in_ok-check_arcs.ensures) in
-    let points = sym (rw (c.len.ensures, s.heads.ok.0, c.as_slice-3.ensures.value, c.as_slice-4.ensures.value, c.as_slice-5.ensures.value) at c.in_ok-check_points.ensures) in
-    let sites = sym (rw (c.len-2.ensures, s.starts.ok.0, c.as_slice-6.ensures.value) at c.in_err-check_sites.ensures) in
-    rw (p.1, p.2) (sym (table_sites (table_lists s) arcs points ∙ sites))
-
-pub returns : goal.returns
-returns c =
-    let s = c.args.self.now in
-    let arcs = sym (rw (c.as_slice.ensures.value, c.as_slice-2.ensures.value) at c.in_ok-check_arcs.ensures) in
-    let points = sym (rw (c.len.ensures, s.heads.ok.0, c.as_slice-3.ensures.value, c.as_slice-4.ensures.value, c.as_slice-5.ensures.value) at c.in_ok-check_points.ensures) in
-    let sites = sym (rw (c.len-2.ensures, s.starts.ok.0, c.as_slice-6.ensures.value) at c.in_ok-check_sites.ensures) in
-    sym (table_sites (table_lists s) arcs points ∙ sites)

@@ -4,4 +4,4 @@ use Rattle.queue.proofs.queue.Queue.capacity.Goals as goal
 
 pub returns : goal.returns
 unfolding capacity
-returns c = refl
+returns g c = refl

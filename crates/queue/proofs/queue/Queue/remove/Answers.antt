@@ -1,25 +1,17 @@
-use Rattle.std.proofs.Common.{◌≤◌, length, sym, subst}
-use Rattle.queue.specs.Room.{held, queued}
-use Rattle.queue.specs.Keys.{key_handle}
-use Rattle.queue.specs.Waiting.{count_of}
-use Rattle.queue.specs.Queues.{capacity, waiting}
-use Rattle.queue.proofs.Seen.{whole_of, remove_count}
+use Rattle.std.proofs.Common.{None, subst, arith}
+use Rattle.queue.specs.Room.{item, held}
+use Rattle.queue.specs.Queues.{waiting}
+use Rattle.queue.specs.Waiting.{Updated}
+use Rattle.queue.proofs.Mending.{some_slot}
+use Rattle.queue.proofs.Seen.{belongs, remove_count}
 use Rattle.queue.proofs.queue.Queue.remove.Goals as goal
 
-pub drop_out-requires : goal.drop_out-requires
-drop_out-requires c = whole_of c.args.self.now
-
-pub invariant_of-self : goal.invariant_of-self
-invariant_of-self c = record { whole = ∣ c.drop_out.ensures.whole ∣₁ }
-
-pub returns : goal.returns
-unfolding capacity waiting
-returns c =
-    let fix = c.drop_out.ensures in
+pub returns-in-Some : goal.returns-in-Some
+returns-in-Some g c =
     let now = c.args.self.now in
-    let then = c.drop_out.new.room in
-    record {
-      capacity = fix.long;
-      none = fix.updated;
-      count = subst (λ n. count_of (queued key_handle then) n ≤ count_of (queued key_handle now.room) (length (held now.room))) (sym fix.long) (remove_count (queued key_handle now.room) (queued key_handle then) (length (held now.room)) fix.updated);
-    }
+    let low = c.in-Some.ensures.inside in
+    let fits = now.whole.placed.fits in
+    let d = some_slot (held now.room) (omega arith) in
+    let own = (belongs now c.args.handle (item (held now.room) d c.in-Some.at) (c.in-Some.ensures.what d)).0 in
+    let updated = subst (λ h. Updated (waiting now) (waiting c.remove_at.new.self) h None) own (c.remove_at.ensures.updated d) in
+    record { capacity = c.remove_at.ensures.capacity; none = updated; count = remove_count now c.remove_at.new.self c.remove_at.ensures.capacity updated }

@@ -1,27 +1,22 @@
-use Rattle.std.proofs.Common.{◌≡◌, ◌+◌, length, sym, subst}
-use Rattle.queue.specs.Room.{held, queued}
-use Rattle.queue.specs.Keys.{key_handle, key_before}
-use Rattle.queue.specs.Waiting.{count_of, one_for}
+use Rattle.std.proofs.Common.{sym, arith}
+use Rattle.queue.specs.Room.{held}
 use Rattle.queue.specs.Queues.{capacity, waiting}
-use Rattle.queue.proofs.Seen.{whole_of, take_count, belongs}
+use Rattle.queue.proofs.Orders.{strict, one_handle}
+use Rattle.queue.proofs.Seen.{take_count}
+use Rattle.queue.proofs.Taking.{empty_least, top_is_least}
 use Rattle.queue.proofs.queue.Queue.take_least.Goals as goal
 
-pub take-requires : goal.take-requires
-take-requires c = whole_of c.args.self.now
-
-pub invariant_of-self : goal.invariant_of-self
-invariant_of-self c = record { whole = ∣ c.take.ensures.whole ∣₁ }
+pub returns-then-self-eq0-clause-least : goal.returns-then-self-eq0-clause-least
+unfolding capacity waiting
+returns-then-self-eq0-clause-least g c = sym (empty_least g.T.Keyed.handled g.T.Keyed.before (held c.args.self.now.room) c.args.self.now.room.len (omega arith))
 
 pub returns : goal.returns
 unfolding capacity waiting
-returns c =
-    let fix = c.take.ensures in
+returns g c =
     let now = c.args.self.now in
-    let then = c.take.new.room in
-    record {
-      capacity = fix.long;
-      least = fix.least;
-      without = fix.without;
-      count = subst (λ n. count_of (queued key_handle then) n + one_for c.take.result ≡ count_of (queued key_handle now.room) (length (held now.room))) (sym fix.long)
-          (take_count (queued key_handle now.room) (queued key_handle then) (length (held now.room)) key_handle key_before c.take.result (λ h x e. (belongs now h x e).0) fix.least fix.without);
-    }
+    let d = c.index-self-top.result in
+    let total = g.met.T.Ord.total in
+    let ordered = g.met.T.Keyed.ordered in
+    let least = sym (top_is_least g.T.Keyed.handled g.T.Keyed.before (held now.room) now.room.len (strict total ordered) (one_handle total ordered g.met.T.Keyed.level) now.whole (omega arith) d) in
+    let gone = c.remove_at.ensures in
+    record { capacity = gone.capacity; least = least; without = gone.updated d; count = take_count now c.remove_at.new.self gone.capacity least (gone.updated d) }

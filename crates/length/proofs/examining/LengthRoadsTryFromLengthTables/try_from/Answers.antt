@@ -1,0 +1,15 @@
+use Rattle.std.proofs.Common.{sym}
+use Rattle.network.proofs.First.{none_is}
+use Rattle.length.specs.Held.{table_lists}
+use Rattle.length.specs.Measured.{table_says}
+use Rattle.length.proofs.examining.LengthRoadsTryFromLengthTables.try_from.Goals as goal
+
+pub invariant_of-streets : goal.invariant_of-streets
+invariant_of-streets c =
+    let k = table_says (table_lists c.args.tables) (sym c.in_default.ensures) in
+    record { arcs = none_is _ k.0; sited = none_is _ k.2 }
+
+pub invariant_of-result : goal.invariant_of-result
+invariant_of-result c =
+    let k = table_says (table_lists c.args.tables) (sym c.in_default.ensures) in
+    record { long = k.1 }
