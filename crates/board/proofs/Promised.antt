@@ -36,7 +36,8 @@ module _ (soonest_listed : SoonestListed) where
         let b = or_none (unless (is_some (g.roads.start q.number)) (refusal 15 the_call)) _ a.1 in
         (ltb-true q.junction g.roads.junctions (unless_none (ltb q.junction g.roads.junctions) (refusal 14 the_call) a.0), unless_none (is_some (g.roads.start q.number)) (refusal 15 the_call) b.0)
 
-    answered : Sound g → (free : ℕ → Bool) → SoonestOr (ask_refusal g n q) g free q (ask_answer (asked g free n q))
+    -- what an asking answers is the first of its refusals that applies, or a list of the soonest free sites
+    pub answered : Sound g → (free : ℕ → Bool) → SoonestOr (ask_refusal g n q) g free q (ask_answer (asked g free n q))
     unfolding asked
     answered sound free = by (ask_refusal g n q) refl
       where

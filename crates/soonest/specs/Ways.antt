@@ -1,7 +1,11 @@
 -- Following ways back to the start. Assumes nothing.
-use Rattle.std.specs.Prelude.{ℕ, zero, suc, Bool, true, false, ◌&&◌, List, [], ◌∷◌, ◌++◌, Some, None, Option, ◌==◌, nat_lt}
+use Rattle.std.specs.Prelude.{ℕ, zero, suc, Bool, true, false, ◌&&◌, List, [], ◌∷◌, ◌++◌, Some, None, Option, ◌==◌, nat_lt, slice_index_or}
 use Rattle.std.specs.Option.{option_map}
 use Rattle.network.specs.Model.{Roads}
+
+-- the way of a junction in a list of ways, 65535 for none
+abbrev pub way_in : List ℕ → ℕ → ℕ
+way_in ways v = slice_index_or ways v 65535
 
 module _ (m : Roads) (way : ℕ → ℕ) (start : ℕ) where
   -- whether the way of v is an arc that is there and leads to v
