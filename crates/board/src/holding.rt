@@ -3,7 +3,7 @@ ghost use Rattle.std.specs.Prelude.{◌≡◌};
 ghost use Rattle.board.specs.Answered.{held_answer, handed_answer};
 ghost use Rattle.board.specs.Calls.{holding, handing_back};
 ghost use Rattle.board.specs.Held.{board_table, hold_bears};
-ghost use Rattle.board.specs.Promise.{Throughout, hold_answer, back_answer, SoonestAndFreeBaysOverEveryListOfCalls};
+ghost use Rattle.board.specs.Promise.{Throughout, hold_answer, back_answer};
 ghost use Rattle.board.specs.Tables.{hold_refusal, one_more_out, back_refusal, one_less_out};
 
 use crate::board::Board;
@@ -16,7 +16,6 @@ impl Board {
         ensures answer { held_answer result ≡ hold_answer (hold_refusal (board_table self.old) site) (board_table self.old).number site }
         ensures table { board_table self.new ≡ one_more_out (hold_refusal (board_table self.old) site) (board_table self.old) site }
         ensures throughout { Throughout (board_table self.old) (holding site) (held_answer result) (board_table self.new) }
-        ensures promise { SoonestAndFreeBaysOverEveryListOfCalls }
     {
         let at = self
             .table
