@@ -4,4 +4,3 @@ pub mod Goings
 pub mod Travels
 pub mod Outcomes
 pub mod Parts
-pub mod Refusing

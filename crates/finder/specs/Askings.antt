@@ -1,5 +1,5 @@
 -- What an asking returns, and what it leaves in the lists that it is lent, by heights. Assumes nothing.
-use Rattle.std.specs.Prelude.{◌≡◌, ℕ, ◌<◌, List, length, take, Some, None, Ok, Err, Result, slice_index}
+use Rattle.std.specs.Prelude.{◌≡◌, ℕ, ◌<◌, ◌≤◌, List, length, take, Some, None, Ok, Err, Result, slice_index}
 use Rattle.std.specs.Result.{result_map_both}
 use Rattle.network.specs.declared.refusals.Refusal.{Refusal}
 use Rattle.soonest.specs.Asking.{Asking, ask_refusal, asked}
@@ -23,9 +23,21 @@ asking_of q answers ways marks queue = record { junction = q.junction; number = 
 abbrev pub outcome : Guidance → Table → Asking → Result Stage Refusal
 outcome g t q = asked g (has_free t) (sites_of t) q
 
+-- what is known of an asking that is not refused, whose start reading has the height h
+pub record Admitted (g : Guidance) (sites : ℕ) (q : Asking) (h : ℕ) : Type 0 where
+  pub not_refused : ask_refusal g sites q ≡ None
+  pub starts : g.roads.start q.number ≡ Some h
+  pub there : q.junction < g.roads.junctions
+  pub some : 1 ≤ q.k
+  pub few : q.k ≤ 32
+  pub answers_long : q.k ≤ q.answers
+  pub ways_long : g.roads.junctions ≤ q.ways
+  pub marks_long : g.roads.junctions ≤ q.marks
+  pub queue_long : g.roads.junctions ≤ q.queue
+
 -- what the checks answer: the start reading where nothing is refused, or the refusal
 abbrev pub Admission : {R : Type 0} → (R → ℕ) → Guidance → (sites : ℕ) → Asking → Result R AskFault → Type 0
-Admission height g sites q (Ok start) = (ask_refusal g sites q ≡ None) × (g.roads.start q.number ≡ Some (height start))
+Admission height g sites q (Ok start) = Admitted g sites q (height start)
 Admission height g sites q (Err fault) = ask_refusal g sites q ≡ Some (ask_fault fault)
 
 -- of the last stage only how many sites are listed, and how many steps there were

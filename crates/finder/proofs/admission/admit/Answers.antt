@@ -26,4 +26,14 @@ returns-then-not-serves g c = grind (arith, nat_tests, common_steps)
 
 pub returns : goal.returns
 unfolding ask_refusal
-returns g c = grind (arith, nat_tests, common_steps)
+returns g c = record {
+  not_refused = grind (arith, nat_tests, common_steps);
+  starts = grind (arith, nat_tests, common_steps);
+  there = grind (arith, nat_tests, common_steps);
+  some = grind (arith, nat_tests, common_steps);
+  few = grind (arith, nat_tests, common_steps);
+  answers_long = grind (arith, nat_tests, common_steps);
+  ways_long = grind (arith, nat_tests, common_steps);
+  marks_long = grind (arith, nat_tests, common_steps);
+  queue_long = grind (arith, nat_tests, common_steps);
+}
