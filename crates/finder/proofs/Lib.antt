@@ -4,3 +4,4 @@ pub mod Goings
 pub mod Travels
 pub mod Outcomes
 pub mod Parts
+pub mod Refusing
