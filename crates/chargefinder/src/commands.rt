@@ -1,11 +1,17 @@
 // The commands: each is computed by a library function, and printed here.
-use crate::layered::{Layered, Piled};
+use crate::asking::show_ask;
+use crate::holding::{show_back, show_hold};
+use crate::layered::{Layered, Opened, Piled};
 use crate::moves::{show_carry, show_change, show_drive};
+use crate::ways::{Trip, show_trace, show_ways};
+use board::Board;
 use clock::Seconds;
 use console::Verb;
+use desk::Desk;
+use finder::Question;
 use layers::{Closure, Detour};
 use length::Travelled;
-use network::Network;
+use network::{Guide, Network};
 use std::fmt;
 
 // What a line asks for.
@@ -23,55 +29,103 @@ impl Command<'_> {
     }
 }
 
-impl Layered {
-    pub(crate) fn act(&mut self, rt: &HostRuntime, command: Command) -> anyhow::Result<()> {
-        match self {
-            Layered::Clock(streets) => match (command.verb, command.numbers) {
+impl Opened {
+    // What needs no roads is answered here, the rest on the roads that are open.
+    pub(crate) fn act(
+        &mut self,
+        rt: &HostRuntime,
+        desk: &mut Desk,
+        command: Command,
+    ) -> anyhow::Result<()> {
+        match (command.verb, command.numbers) {
+            (Verb::Hold, [site]) => show_hold(rt, desk, *site),
+            (Verb::Hold, _) => command.misuse(rt, "hold takes a site"),
+            (Verb::Back, [name]) => show_back(rt, desk, *name),
+            (Verb::Back, _) => command.misuse(rt, "back takes a hold"),
+            (Verb::Ways, []) => show_ways(rt, self.ways.as_slice()),
+            (Verb::Ways, _) => command.misuse(rt, "ways takes nothing"),
+            _ => self.act_on_roads(rt, desk.board(), command),
+        }
+    }
+
+    fn act_on_roads(
+        &mut self,
+        rt: &HostRuntime,
+        board: &Board,
+        command: Command,
+    ) -> anyhow::Result<()> {
+        let ways = self.ways.as_mut_slice();
+        match &mut self.roads {
+            Layered::Clock(roads) => match (command.verb, command.numbers) {
                 (Verb::Carry, [arc, seconds]) => {
-                    show_carry(rt, streets, *arc, Seconds::new(*seconds))
+                    show_carry(rt, roads, *arc, Seconds::new(*seconds))
                 }
                 (Verb::Carry, _) => command.misuse(rt, "carry takes an arc and a reading"),
-                _ => act_on(rt, streets, command),
+                _ => act_on(rt, roads, ways, board, command),
             },
-            Layered::Length(streets) => match (command.verb, command.numbers) {
+            Layered::Length(roads) => match (command.verb, command.numbers) {
                 (Verb::Carry, [arc, metres, passed]) => {
-                    show_carry(rt, streets, *arc, Travelled::new(*metres, *passed))
+                    show_carry(rt, roads, *arc, Travelled::new(*metres, *passed))
                 }
                 (Verb::Carry, _) => command.misuse(
                     rt,
                     "carry takes an arc, metres and arcs passed",
                 ),
-                _ => act_on(rt, streets, command),
+                _ => act_on(rt, roads, ways, board, command),
             },
         }
     }
 }
 
 // The commands that go alike on every kind of roads.
-fn act_on<N: Network>(
+fn act_on<G: Guide>(
     rt: &HostRuntime,
-    roads: &mut Piled<N>,
+    roads: &mut Piled<G>,
+    ways: &mut [u32],
+    board: &Board,
     command: Command,
 ) -> anyhow::Result<()>
 where
-    N::Reading: fmt::Display,
+    G::Reading: fmt::Display,
 {
     match (command.verb, command.numbers) {
+        (Verb::Ask, &[junction, number, k]) => {
+            let question = Question {
+                junction,
+                number,
+                k,
+            };
+            show_ask(rt, roads, board, ways, question)
+        }
+        (Verb::Ask, _) => command.misuse(rt, "ask takes a junction, a start number and how many"),
+        (Verb::Trace, &[from, number, to]) => {
+            show_trace(rt, roads, ways, Trip { from, number, to })
+        }
+        (Verb::Trace, _) => {
+            command.misuse(rt, "trace takes a junction, a start number and a junction")
+        }
         (Verb::Drive, [start, arcs @ ..]) => show_drive(rt, roads, *start, arcs),
+        (Verb::Drive, _) => command.misuse(rt, "drive takes a start number and arcs"),
+        _ => change_layers(rt, roads, command),
+    }
+}
+
+fn change_layers<N: Network>(
+    rt: &HostRuntime,
+    roads: &mut Piled<N>,
+    command: Command,
+) -> anyhow::Result<()> {
+    match (command.verb, command.numbers) {
         (Verb::Close, [arc]) => show_change(rt, "closed", roads.add(Closure { arc: *arc })),
         (Verb::Reopen, [arc]) => show_change(rt, "reopened", roads.lift(*arc)),
         (Verb::Detour, [arc, units]) => {
-            show_change(
-                rt,
-                "detoured",
-                roads.below.add(Detour {
-                    arc: *arc,
-                    units: *units,
-                }),
-            )
+            let detour = Detour {
+                arc: *arc,
+                units: *units,
+            };
+            show_change(rt, "detoured", roads.below.add(detour))
         }
         (Verb::Lift, [arc]) => show_change(rt, "lifted", roads.below.lift(*arc)),
-        (Verb::Drive, _) => command.misuse(rt, "drive takes a start number and arcs"),
         (Verb::Detour, _) => command.misuse(rt, "detour takes an arc and units"),
         _ => command.misuse(rt, "close, reopen and lift take an arc"),
     }

@@ -1,24 +1,51 @@
-// A depot, and the roads on which its commands are answered.
+// A depot, the roads on which its commands are answered, and the desk at which its bays are held.
 use crate::commands::Command;
-use crate::layered::{Layered, open_roads};
+use crate::layered::{Opened, open_roads};
+use crate::moves::show_refusal;
 use console::{Kind, Verb};
 use depot::{Depot, by_name, read_entry, split_name};
+use desk::Desk;
 
-#[derive(Drop)]
 pub struct Session<'a> {
     rt: &'a HostRuntime,
     depot: &'a Depot,
-    roads: Layered,
+    opened: Opened,
+    desk: Desk,
 }
 
 impl<'a> Session<'a> {
-    // None where the roads are refused, which is said.
+    // None where the roads or the board are refused, which is said.
     pub(crate) fn open(
         rt: &'a HostRuntime,
         depot: &'a Depot,
         kind: Kind,
     ) -> anyhow::Result<Option<Session<'a>>> {
-        Ok(open_roads(rt, depot, kind)?.map(|roads| Session { rt, depot, roads }))
+        let Some(opened) = open_roads(rt, depot, kind)? else {
+            return Ok(None);
+        };
+        match Desk::open(rt.alloc(), depot.board, depot.bays.as_slice()) {
+            Ok(desk) => Ok(Some(Session {
+                rt,
+                depot,
+                opened,
+                desk,
+            })),
+            Err(fault) => {
+                show_refusal(rt, fault)?;
+                Ok(None)
+            }
+        }
+    }
+
+    // Every hold that is still kept is handed back.
+    pub(crate) fn close(self) {
+        let Session {
+            rt: _,
+            depot: _,
+            opened: _,
+            desk,
+        } = self;
+        let _board = desk.close();
     }
 
     // One command a line; how many lines there were. A line beyond those that can be numbered is not read.
@@ -45,8 +72,9 @@ impl<'a> Session<'a> {
             return self.change_roads(number, rest);
         }
         match read_entry(rt.alloc(), line) {
-            Ok(Some(entry)) => self.roads.act(
+            Ok(Some(entry)) => self.opened.act(
                 rt,
+                &mut self.desk,
                 Command {
                     line: number,
                     verb,
@@ -58,7 +86,7 @@ impl<'a> Session<'a> {
         }
     }
 
-    // Other roads of the same depot, with no arc closed and no detour; where they are refused, all stays.
+    // Other roads of the same depot, with no arc closed, no detour and no way known; where they are refused, all stays.
     fn change_roads(&mut self, number: u64, rest: &[u8]) -> anyhow::Result<()> {
         let rt = self.rt;
         let Some(kind) = split_name(rest).and_then(|(word, _)| by_name(word)) else {
@@ -66,26 +94,36 @@ impl<'a> Session<'a> {
             return Ok(());
         };
         if let Some(other) = open_roads(rt, self.depot, kind)? {
-            self.roads = other;
+            self.opened = other;
         }
         Ok(())
     }
 
-    // Some drives on the built-in depot, each before its answer.
-    pub(crate) fn show_worked(&mut self) -> anyhow::Result<()> {
+    // Where there is no line, some askings on the built-in depot are shown, each before its answer.
+    pub(crate) fn serve_or_show(&mut self) -> anyhow::Result<()> {
+        if self.serve()? == 0 {
+            self.show_worked()?;
+        }
+        Ok(())
+    }
+
+    fn show_worked(&mut self) -> anyhow::Result<()> {
         let rt = self.rt;
         for line in [
-            "carry 3 32350",
+            "ask 0 28000 2",
+            "ways",
+            "ask 0 28800 2",
             "drive 28800 1 3",
-            "drive 30500 0 2",
-            "drive 86400 0 2",
-            "drive 86401 0",
-            "roads length",
-            "drive 0 1 3",
-            "detour 1 60",
-            "drive 0 1 3",
+            "ask 0 30500 1",
+            "ask 0 86400 2",
+            "ask 0 86401 2",
+            "hold 1",
+            "ask 0 28000 2",
+            "back 0",
             "close 3",
-            "drive 0 1 3",
+            "ask 0 28000 2",
+            "roads length",
+            "ask 0 0 2",
         ] {
             println!(rt; "> {line}")?;
             self.answer(0, line.as_bytes())?;

@@ -3,7 +3,7 @@ use Rattle.std.specs.Prelude.{ℕ, List, [], ◌∷◌, codes}
 use Rattle.console.specs.declared.kinds.Kind.{Kind}
 use Rattle.console.specs.declared.kinds.Kind.TheVariants.{Clock, Length}
 use Rattle.console.specs.declared.verbs.Verb.{Verb}
-use Rattle.console.specs.declared.verbs.Verb.TheVariants.{Carry, Drive, Close, Reopen, Detour, Lift, Roads}
+use Rattle.console.specs.declared.verbs.Verb.TheVariants.{Carry, Drive, Close, Reopen, Detour, Lift, Ask, Ways, Trace, Hold, Back, Roads}
 
 abbrev pub verb_name : Verb → List ℕ
 verb_name Carry = codes "carry"
@@ -12,11 +12,16 @@ verb_name Close = codes "close"
 verb_name Reopen = codes "reopen"
 verb_name Detour = codes "detour"
 verb_name Lift = codes "lift"
+verb_name Ask = codes "ask"
+verb_name Ways = codes "ways"
+verb_name Trace = codes "trace"
+verb_name Hold = codes "hold"
+verb_name Back = codes "back"
 verb_name Roads = codes "roads"
 
 -- every command
 abbrev pub verbs : List Verb
-verbs = Carry ∷ Drive ∷ Close ∷ Reopen ∷ Detour ∷ Lift ∷ Roads ∷ []
+verbs = Carry ∷ Drive ∷ Close ∷ Reopen ∷ Detour ∷ Lift ∷ Ask ∷ Ways ∷ Trace ∷ Hold ∷ Back ∷ Roads ∷ []
 
 abbrev pub kind_name : Kind → List ℕ
 kind_name Clock = codes "clock"

@@ -11,6 +11,11 @@ pub enum Verb {
     Reopen,
     Detour,
     Lift,
+    Ask,
+    Ways,
+    Trace,
+    Hold,
+    Back,
     Roads,
 }
 
@@ -25,6 +30,11 @@ impl Named for Verb {
             Verb::Reopen => b"reopen",
             Verb::Detour => b"detour",
             Verb::Lift => b"lift",
+            Verb::Ask => b"ask",
+            Verb::Ways => b"ways",
+            Verb::Trace => b"trace",
+            Verb::Hold => b"hold",
+            Verb::Back => b"back",
             Verb::Roads => b"roads",
         }
     }
@@ -41,6 +51,11 @@ impl Listed for Verb {
             Verb::Reopen,
             Verb::Detour,
             Verb::Lift,
+            Verb::Ask,
+            Verb::Ways,
+            Verb::Trace,
+            Verb::Hold,
+            Verb::Back,
             Verb::Roads,
         ]
     }

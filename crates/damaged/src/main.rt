@@ -1,11 +1,14 @@
-// Opens one depot file after another, and prints what each is answered as clock roads and as length roads.
+// Opens one depot file after another, and prints what each is answered as clock roads, as length roads and as a board, and
+// what an asking without room is.
 #![tactic(auto)]
 
+use board::Board;
 use clock::ClockRoads;
 use console::{Kind, clock_tables, length_tables};
 use depot::{Depot, read_depot};
+use finder::{Question, ask};
 use length::LengthRoads;
-use network::{Refusal, Returned};
+use network::{Guide, Refusal, Returned};
 use std::{env, fs};
 
 fn main(rt: HostRuntime) -> anyhow::Result<()> {
@@ -29,13 +32,18 @@ fn show(rt: &HostRuntime, path: &str) -> anyhow::Result<()> {
 }
 
 fn show_opened(rt: &HostRuntime, depot: &Depot) -> anyhow::Result<()> {
-    say(rt, Kind::Clock, ClockRoads::try_from(clock_tables(depot)?))?;
+    let clock = say(rt, Kind::Clock, ClockRoads::try_from(clock_tables(depot)?))?;
     print!(rt; ", ")?;
     say(
         rt,
         Kind::Length,
         LengthRoads::try_from(length_tables(depot)?),
     )?;
+    print!(rt; ", ")?;
+    let board = say_board(rt, depot)?;
+    if let (Some(roads), Some(board)) = (clock, board) {
+        say_asked(rt, &roads, &board)?;
+    }
     println!(rt)?;
     Ok(())
 }
@@ -45,13 +53,49 @@ fn say<R: Drop, T: Drop, F: Into<Refusal>>(
     rt: &HostRuntime,
     kind: Kind,
     opened: Result<R, Returned<T, F>>,
-) -> anyhow::Result<()> {
-    match opened.err() {
-        None => print!(rt; "roads {kind}")?,
-        Some(returned) => {
-            let refusal: Refusal = returned.fault.into();
-            print!(rt; "{refusal}")?;
+) -> anyhow::Result<Option<R>> {
+    match opened {
+        Ok(roads) => {
+            print!(rt; "roads {kind}")?;
+            Ok(Some(roads))
         }
+        Err(Returned { fault, value: _ }) => {
+            say_refusal(rt, fault)?;
+            Ok(None)
+        }
+    }
+}
+
+fn say_refusal(rt: &HostRuntime, fault: impl Into<Refusal>) -> anyhow::Result<()> {
+    let refusal: Refusal = fault.into();
+    Ok(print!(rt; "{refusal}")?)
+}
+
+// The board's number, or what it is refused by.
+fn say_board(rt: &HostRuntime, depot: &Depot) -> anyhow::Result<Option<Board>> {
+    match Board::new(depot.board, depot.bays.as_slice()) {
+        Ok(board) => {
+            let number = board.number();
+            print!(rt; "board {number}")?;
+            Ok(Some(board))
+        }
+        Err(fault) => {
+            say_refusal(rt, fault)?;
+            Ok(None)
+        }
+    }
+}
+
+// An asking that is lent no room is refused for that, or for what comes before it in the order of refusals.
+fn say_asked<G: Guide>(rt: &HostRuntime, guide: &G, board: &Board) -> anyhow::Result<()> {
+    let question = Question {
+        junction: 0,
+        number: 0,
+        k: 1,
+    };
+    if let Err(fault) = ask(guide, board, question, &mut [], &mut [], &mut [], &mut []) {
+        print!(rt; ", asking without room ")?;
+        say_refusal(rt, fault)?;
     }
     Ok(())
 }

@@ -1,0 +1,21 @@
+// Holding bays, and handing them back.
+use crate::moves::show_refusal;
+use desk::{Desk, DeskFault};
+
+pub(crate) fn show_hold(rt: &HostRuntime, desk: &mut Desk, site: u32) -> anyhow::Result<()> {
+    match desk.hold(site) {
+        Ok(name) => println!(rt; "hold {name} site {site}")?,
+        Err(DeskFault::Refused(fault)) => show_refusal(rt, fault)?,
+        Err(DeskFault::NoNumber) => println!(rt; "no number is left for another hold")?,
+        Err(DeskFault::NoMemory) => println!(rt; "no memory for another hold")?,
+    }
+    Ok(())
+}
+
+pub(crate) fn show_back(rt: &HostRuntime, desk: &mut Desk, name: u32) -> anyhow::Result<()> {
+    match desk.back(name) {
+        Some(site) => println!(rt; "freed site {site}")?,
+        None => println!(rt; "no such hold")?,
+    }
+    Ok(())
+}
