@@ -93,7 +93,17 @@ fn say_asked<G: Guide>(rt: &HostRuntime, guide: &G, board: &Board) -> anyhow::Re
         number: 0,
         k: 1,
     };
-    if let Err(fault) = ask(guide, board, question, &mut [], &mut [], &mut [], &mut []) {
+    let heap = rt.alloc();
+    let asked = ask(
+        guide,
+        board,
+        question,
+        Vec::new(heap).as_mut_slice(),
+        Vec::new(heap).as_mut_slice(),
+        Vec::new(heap).as_mut_slice(),
+        Vec::new(heap).as_mut_slice(),
+    );
+    if let Err(fault) = asked {
         print!(rt; ", asking without room ")?;
         say_refusal(rt, fault)?;
     }
