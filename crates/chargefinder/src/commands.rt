@@ -1,16 +1,16 @@
 // The commands: each is computed by a library function, and printed here.
 use crate::asking::show_ask;
+use crate::guiding::{show_estimate, show_index};
 use crate::holding::{show_back, show_hold};
 use crate::layered::{Layered, Opened, Piled};
 use crate::moves::{show_carry, show_change, show_drive};
+use crate::readings::Given;
 use crate::ways::{Trip, show_trace, show_ways};
 use board::Board;
-use clock::Seconds;
 use console::Verb;
 use desk::Desk;
 use finder::Question;
 use layers::{Closure, Detour};
-use length::Travelled;
 use network::{Guide, Network};
 use std::fmt;
 
@@ -23,7 +23,7 @@ pub struct Command<'a> {
 }
 
 impl Command<'_> {
-    fn misuse(&self, rt: &HostRuntime, what: &str) -> anyhow::Result<()> {
+    fn misuse(&self, rt: &HostRuntime, what: impl fmt::Display + Drop) -> anyhow::Result<()> {
         let line = self.line;
         Ok(println!(rt; "line {line}: {what}")?)
     }
@@ -44,6 +44,10 @@ impl Opened {
             (Verb::Back, _) => command.misuse(rt, "back takes a hold"),
             (Verb::Ways, []) => show_ways(rt, self.ways.as_slice()),
             (Verb::Ways, _) => command.misuse(rt, "ways takes nothing"),
+            (Verb::Index, [segment, junction]) => {
+                show_index(rt, self.roads.index_row(*segment, *junction))
+            }
+            (Verb::Index, _) => command.misuse(rt, "index takes a segment and a junction"),
             _ => self.act_on_roads(rt, desk.board(), command),
         }
     }
@@ -56,28 +60,14 @@ impl Opened {
     ) -> anyhow::Result<()> {
         let ways = self.ways.as_mut_slice();
         match &mut self.roads {
-            Layered::Clock(roads) => match (command.verb, command.numbers) {
-                (Verb::Carry, [arc, seconds]) => {
-                    show_carry(rt, roads, *arc, Seconds::new(*seconds))
-                }
-                (Verb::Carry, _) => command.misuse(rt, "carry takes an arc and a reading"),
-                _ => act_on(rt, roads, ways, board, command),
-            },
-            Layered::Length(roads) => match (command.verb, command.numbers) {
-                (Verb::Carry, [arc, metres, passed]) => {
-                    show_carry(rt, roads, *arc, Travelled::new(*metres, *passed))
-                }
-                (Verb::Carry, _) => command.misuse(
-                    rt,
-                    "carry takes an arc, metres and arcs passed",
-                ),
-                _ => act_on(rt, roads, ways, board, command),
-            },
+            Layered::Clock(roads) => act_on(rt, roads, ways, board, command),
+            Layered::Guided(roads) => act_on(rt, roads, ways, board, command),
+            Layered::Length(roads) => act_on(rt, roads, ways, board, command),
         }
     }
 }
 
-// The commands that go alike on every kind of roads.
+// These commands go alike on every kind of roads.
 fn act_on<G: Guide>(
     rt: &HostRuntime,
     roads: &mut Piled<G>,
@@ -86,7 +76,7 @@ fn act_on<G: Guide>(
     command: Command,
 ) -> anyhow::Result<()>
 where
-    G::Reading: fmt::Display,
+    G::Reading: fmt::Display + Given,
 {
     match (command.verb, command.numbers) {
         (Verb::Ask, &[junction, number, k]) => {
@@ -106,7 +96,37 @@ where
         }
         (Verb::Drive, [start, arcs @ ..]) => show_drive(rt, roads, *start, arcs),
         (Verb::Drive, _) => command.misuse(rt, "drive takes a start number and arcs"),
+        (Verb::Carry | Verb::Estimate, _) => act_at_reading(rt, roads, command),
         _ => change_layers(rt, roads, command),
+    }
+}
+
+// The commands that are given a reading, after an arc or a junction.
+fn act_at_reading<G: Guide>(
+    rt: &HostRuntime,
+    roads: &Piled<G>,
+    command: Command,
+) -> anyhow::Result<()>
+where
+    G::Reading: fmt::Display + Given,
+{
+    let units = G::Reading::numbers();
+    let given = match command.numbers {
+        [place, numbers @ ..] => G::Reading::given(numbers).map(|(reading, rest)| (
+            *place, reading, rest,
+        )),
+        [] => None,
+    };
+    match (command.verb, given) {
+        (Verb::Estimate, Some((junction, reading, sites))) => {
+            show_estimate(rt, roads, junction, reading, sites)
+        }
+        (Verb::Estimate, None) => command.misuse(
+            rt,
+            format_args!("estimate takes a junction, then {units}, then sites"),
+        ),
+        (_, Some((arc, reading, []))) => show_carry(rt, roads, arc, reading),
+        _ => command.misuse(rt, format_args!("carry takes an arc, then {units}")),
     }
 }
 

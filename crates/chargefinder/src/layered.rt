@@ -1,8 +1,9 @@
 // The roads that commands are answered on: closures over detours over the kind chosen, and the ways known on them.
 use crate::moves::show_refusal;
 use clock::ClockRoads;
-use console::{Kind, clock_tables, length_tables};
+use console::{Kind, clock_tables, guided_roads, length_tables};
 use depot::Depot;
+use guided::GuidedRoads;
 use layers::{Closures, Detours};
 use length::LengthRoads;
 use network::{Refusal, Returned};
@@ -15,7 +16,18 @@ pub type Piled<N> = Closures<Detours<N>>;
 #[derive(Drop)]
 pub enum Layered {
     Clock(Piled<ClockRoads>),
+    Guided(Piled<GuidedRoads>),
     Length(Piled<LengthRoads>),
+}
+
+impl Layered {
+    // A row of the index, which guided roads alone have.
+    pub(crate) fn index_row(&self, segment: u32, junction: u32) -> Option<(&[u32], &[u32])> {
+        match self {
+            Layered::Guided(roads) => roads.below.below.index_row(segment, junction),
+            _ => None,
+        }
+    }
 }
 
 // Roads, and the way of each junction that the last asking left.
@@ -31,37 +43,47 @@ pub(crate) fn open_roads(
     depot: &Depot,
     kind: Kind,
 ) -> anyhow::Result<Option<Opened>> {
-    let roads = match kind {
-        Kind::Clock => layers_over(rt, kind, ClockRoads::try_from(clock_tables(depot)?))?.map(
-            Layered::Clock,
-        ),
-        Kind::Length => layers_over(rt, kind, LengthRoads::try_from(length_tables(depot)?))?.map(
-            Layered::Length,
-        ),
-    };
-    let Some(roads) = roads else {
-        return Ok(None);
-    };
-    // Before any asking no junction has a way.
-    let junctions = depot.arc_starts.len().saturating_sub(1);
-    let ways = vec![in rt.alloc(); NO_WAY; junctions]?;
-    Ok(Some(Opened { roads, ways }))
-}
-
-// With no arc closed and no detour.
-fn layers_over<R: Drop, T: Drop, F: Into<Refusal>>(
-    rt: &HostRuntime,
-    kind: Kind,
-    examined: Result<R, Returned<T, F>>,
-) -> anyhow::Result<Option<Piled<R>>> {
-    match examined {
+    match layered_roads(rt, depot, kind)? {
         Ok(roads) => {
             println!(rt; "roads {kind}")?;
-            Ok(Some(Closures::over(Detours::over(roads))))
+            // Before any asking no junction has a way.
+            let junctions = depot.arc_starts.len().saturating_sub(1);
+            let ways = vec![in rt.alloc(); NO_WAY; junctions]?;
+            Ok(Some(Opened { roads, ways }))
         }
-        Err(Returned { fault, value: _ }) => {
-            show_refusal(rt, fault)?;
+        Err(refusal) => {
+            show_refusal(rt, refusal)?;
             Ok(None)
         }
     }
+}
+
+fn layered_roads(
+    rt: &HostRuntime,
+    depot: &Depot,
+    kind: Kind,
+) -> anyhow::Result<Result<Layered, Refusal>> {
+    Ok(match kind {
+        Kind::Clock => ClockRoads::try_from(clock_tables(depot)?)
+            .map(|roads| Layered::Clock(layers_over(roads)))
+            .map_err(refusal_of),
+        Kind::Guided => {
+            guided_roads(rt.alloc(), depot)?
+                .map(|roads| Layered::Guided(layers_over(roads)))
+                .map_err(Refusal::from)
+        }
+        Kind::Length => LengthRoads::try_from(length_tables(depot)?)
+            .map(|roads| Layered::Length(layers_over(roads)))
+            .map_err(refusal_of),
+    })
+}
+
+// With no arc closed and no detour.
+fn layers_over<R>(roads: R) -> Piled<R> {
+    Closures::over(Detours::over(roads))
+}
+
+fn refusal_of<T: Drop, F: Into<Refusal>>(returned: Returned<T, F>) -> Refusal {
+    let Returned { fault, value: _ } = returned;
+    fault.into()
 }

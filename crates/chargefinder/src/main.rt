@@ -3,9 +3,11 @@
 
 mod asking;
 mod commands;
+mod guiding;
 mod holding;
 mod layered;
 mod moves;
+mod readings;
 mod session;
 mod ways;
 
@@ -30,7 +32,7 @@ fn run(rt: &HostRuntime) -> anyhow::Result<()> {
         .map_or(Some(Kind::Clock), |word| by_name(word.as_bytes()));
     match kind {
         Some(kind) => serve_file(rt, path.as_str(), kind),
-        None => Ok(println!(rt; "chargefinder [DEPOT [clock|length]]")?),
+        None => Ok(println!(rt; "chargefinder [DEPOT [clock|guided|length]]")?),
     }
 }
 

@@ -90,7 +90,7 @@ impl<'a> Session<'a> {
     fn change_roads(&mut self, number: u64, rest: &[u8]) -> anyhow::Result<()> {
         let rt = self.rt;
         let Some(kind) = split_name(rest).and_then(|(word, _)| by_name(word)) else {
-            println!(rt; "line {number}: roads takes clock or length")?;
+            println!(rt; "line {number}: roads takes clock, guided or length")?;
             return Ok(());
         };
         if let Some(other) = open_roads(rt, self.depot, kind)? {
@@ -122,6 +122,10 @@ impl<'a> Session<'a> {
             "back 0",
             "close 3",
             "ask 0 28000 2",
+            "roads guided",
+            "index 0 3",
+            "estimate 2 32350 0",
+            "ask 2 32350 1",
             "roads length",
             "ask 0 0 2",
         ] {

@@ -6,6 +6,7 @@ mod arc_points;
 mod carrying;
 mod examining;
 mod faults;
+mod own_points;
 mod points;
 mod roads;
 mod seconds;
@@ -14,5 +15,5 @@ mod tables;
 
 pub use faults::TableFault;
 pub use roads::ClockRoads;
-pub use seconds::Seconds;
+pub use seconds::{LAST_DEPARTURE, Seconds};
 pub use tables::ClockTables;

@@ -4,7 +4,7 @@ ghost use Rattle.std.specs.Option.{option_map};
 ghost use Rattle.network.specs.First.{provided};
 
 // Streets are entered up to midnight, and left up to the midnight after.
-pub(crate) const LAST_DEPARTURE: u32 = 86_400;
+pub const LAST_DEPARTURE: u32 = 86_400;
 
 pub(crate) const LAST_ARRIVAL: u32 = 172_800;
 

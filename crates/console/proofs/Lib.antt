@@ -1,1 +1,3 @@
 pub mod Driving
+pub mod Naming
+pub mod Laying

@@ -8,6 +8,7 @@ use std::fmt;
 #[derive(Clone, Copy, Debug, PartialEq, Eq)]
 pub enum Kind {
     Clock,
+    Guided,
     Length,
 }
 
@@ -17,6 +18,7 @@ impl Kind {
     {
         match self {
             Kind::Clock => "clock",
+            Kind::Guided => "guided",
             Kind::Length => "length",
         }
     }
@@ -34,7 +36,7 @@ impl Listed for Kind {
     ghost every = { kinds };
 
     fn all() -> &'static [Kind] {
-        &[Kind::Clock, Kind::Length]
+        &[Kind::Clock, Kind::Guided, Kind::Length]
     }
 }
 

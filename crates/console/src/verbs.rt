@@ -7,6 +7,8 @@ use depot::{Listed, Named};
 pub enum Verb {
     Carry,
     Drive,
+    Estimate,
+    Index,
     Close,
     Reopen,
     Detour,
@@ -26,6 +28,8 @@ impl Named for Verb {
         match self {
             Verb::Carry => b"carry",
             Verb::Drive => b"drive",
+            Verb::Estimate => b"estimate",
+            Verb::Index => b"index",
             Verb::Close => b"close",
             Verb::Reopen => b"reopen",
             Verb::Detour => b"detour",
@@ -47,6 +51,8 @@ impl Listed for Verb {
         &[
             Verb::Carry,
             Verb::Drive,
+            Verb::Estimate,
+            Verb::Index,
             Verb::Close,
             Verb::Reopen,
             Verb::Detour,

@@ -1,10 +1,10 @@
-// Opens one depot file after another, and prints what each is answered as clock roads, as length roads and as a board, and
-// what an asking without room is.
+// Opens one depot file after another, and prints what each is answered as clock roads, as guided roads, as length roads and
+// as a board, and what an asking without room is.
 #![tactic(auto)]
 
 use board::Board;
 use clock::ClockRoads;
-use console::{Kind, clock_tables, length_tables};
+use console::{Kind, clock_tables, guided_roads, length_tables};
 use depot::{Depot, read_depot};
 use finder::{Question, ask};
 use length::LengthRoads;
@@ -32,13 +32,13 @@ fn show(rt: &HostRuntime, path: &str) -> anyhow::Result<()> {
 }
 
 fn show_opened(rt: &HostRuntime, depot: &Depot) -> anyhow::Result<()> {
-    let clock = say(rt, Kind::Clock, ClockRoads::try_from(clock_tables(depot)?))?;
+    let clock = ClockRoads::try_from(clock_tables(depot)?).map_err(fault_of);
+    let clock = say(rt, Kind::Clock, clock)?;
     print!(rt; ", ")?;
-    say(
-        rt,
-        Kind::Length,
-        LengthRoads::try_from(length_tables(depot)?),
-    )?;
+    say(rt, Kind::Guided, guided_roads(rt.alloc(), depot)?)?;
+    print!(rt; ", ")?;
+    let length = LengthRoads::try_from(length_tables(depot)?).map_err(fault_of);
+    say(rt, Kind::Length, length)?;
     print!(rt; ", ")?;
     let board = say_board(rt, depot)?;
     if let (Some(roads), Some(board)) = (clock, board) {
@@ -48,18 +48,24 @@ fn show_opened(rt: &HostRuntime, depot: &Depot) -> anyhow::Result<()> {
     Ok(())
 }
 
+// Why tables are refused, without the tables.
+fn fault_of<T: Drop, F>(returned: Returned<T, F>) -> F {
+    let Returned { fault, value: _ } = returned;
+    fault
+}
+
 // The kind of the roads, or what they are refused by.
-fn say<R: Drop, T: Drop, F: Into<Refusal>>(
+fn say<R: Drop, F: Into<Refusal>>(
     rt: &HostRuntime,
     kind: Kind,
-    opened: Result<R, Returned<T, F>>,
+    opened: Result<R, F>,
 ) -> anyhow::Result<Option<R>> {
     match opened {
         Ok(roads) => {
             print!(rt; "roads {kind}")?;
             Ok(Some(roads))
         }
-        Err(Returned { fault, value: _ }) => {
+        Err(fault) => {
             say_refusal(rt, fault)?;
             Ok(None)
         }

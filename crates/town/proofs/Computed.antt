@@ -21,7 +21,7 @@ arrivals_hold = record {
 
 pub refusals_hold : WorkedRefusals
 unfolding table_refusal arcs_refusal points_refusal sites_refusal arc_refusal point_refusal departs arrives kept cut runs first_of every
-refusals_hold = record { falling = refl; early = refl }
+refusals_hold = record { standing = refl; early = refl; falling = refl }
 
 pub lengths_hold : WorkedLengths
 unfolding by_heights

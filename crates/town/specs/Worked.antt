@@ -30,10 +30,12 @@ pub record WorkedArrivals : Type 0 where
   pub at_86401 : arrival (clock_roads town) 0 86401 ≡ None
 
 pub record WorkedRefusals : Type 0 where
-  -- an arrival below the one before it
-  pub falling : table_refusal (one_arc (0 ∷ 600 ∷ 86400 ∷ []) (900 ∷ 800 ∷ 86500 ∷ [])) ≡ Some (refusal 7 (Two 0 1))
+  -- a departure that is not after the one before it
+  pub standing : table_refusal (one_arc (0 ∷ 0 ∷ 86400 ∷ []) (100 ∷ 200 ∷ 86500 ∷ [])) ≡ Some (refusal 5 (Two 0 1))
   -- an arrival that is not after its departure
   pub early : table_refusal (one_arc (0 ∷ 600 ∷ 86400 ∷ []) (100 ∷ 600 ∷ 86500 ∷ [])) ≡ Some (refusal 6 (Two 0 1))
+  -- an arrival below the one before it
+  pub falling : table_refusal (one_arc (0 ∷ 600 ∷ 86400 ∷ []) (900 ∷ 800 ∷ 86500 ∷ [])) ≡ Some (refusal 7 (Two 0 1))
 
 pub record WorkedLengths : Type 0 where
   -- arc 1 and then arc 3 from 0: 900 metres after 2 arcs

@@ -3,9 +3,8 @@
 
 ghost use Rattle.std.specs.Prelude.{◌≡◌, IfOk};
 ghost use Rattle.depot.specs.Reads.{seen};
-ghost use Rattle.town.specs.Askings.{WorkedAskings};
+ghost use Rattle.town.specs.Examples.{WorkedExamples};
 ghost use Rattle.town.specs.FourJunctions.{four_junctions, four_with};
-ghost use Rattle.town.specs.Worked.{WorkedArrivals, WorkedRefusals, WorkedLengths};
 
 use depot::Depot;
 use std::alloc::{AllocError, Global};
@@ -38,10 +37,7 @@ fn four_with(heap: Global, nearest: u32, board: u32) -> Result<Depot, AllocError
 
 pub fn four_junctions(heap: Global) -> Result<Depot, AllocError>
     ensures lists { IfOk result (λ d. seen d ≡ four_junctions) }
-    ensures arrivals { WorkedArrivals }
-    ensures refusals { WorkedRefusals }
-    ensures lengths { WorkedLengths }
-    ensures askings { WorkedAskings }
+    ensures worked { WorkedExamples }
 {
     four_with(heap, 2, 1)
 }

@@ -1,0 +1,10 @@
+pub mod Costing
+pub mod Fronts
+pub mod Keys
+pub mod Gathering
+pub mod Counting
+pub mod Turns
+pub mod Noting
+pub mod Progress
+pub mod Layouts
+pub mod Admitting

@@ -1,0 +1,9 @@
+pub mod Costs
+pub mod Held
+pub mod Faults
+pub mod Admitted
+pub mod Fronts
+pub mod Labels
+pub mod Standing
+pub mod Sited
+pub mod Places

@@ -1,0 +1,5 @@
+pub mod Nearest
+pub mod Rows
+pub mod Offering
+pub mod Index
+pub mod Guided
