@@ -20,24 +20,8 @@ compile() { # STATEMENTS
     (cd "$work/crates/holder" && rt try) </dev/null >"$work/said" 2>&1
 }
 
-fail() { # WORDS
-    echo "$1" >&2
-    cat "$work/crates/holder/src/main.rt" "$work/said" >&2
-    exit 1
-}
-
-accepted() { # LABEL STATEMENTS
-    compile "$2" || fail "$1: the compiler refuses what it must accept"
-    ! grep -qF 'error[' "$work/said" || fail "$1: the compiler refuses what it must accept"
-    echo "$1: accepted, as it must be"
-}
-
-refused() { # LABEL ERROR STATEMENTS
-    ! compile "$3" || fail "$1: the compiler accepts what it must refuse"
-    grep -qF "error[$2]" "$work/said" || fail "$1: not refused by [$2]"
-    ! grep -F 'error[' "$work/said" | grep -qvF "error[$2]" || fail "$1: refused by another error than [$2] too"
-    echo "$1: refused, as it must be"
-}
+program="$work/crates/holder/src/main.rt"
+. "$root/.ci/refused/trials"
 
 back='match board.hand_back(hold) { Ok(()) => {} Err(_returned) => unreachable() }'
 accepted 'a hold that is handed back' "if let Ok(hold) = board.hold(0) { $back }"

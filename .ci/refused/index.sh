@@ -34,24 +34,8 @@ EOF
     (cd "$work/crates/layer" && rt try) </dev/null >"$work/said" 2>&1
 }
 
-fail() { # WORDS
-    echo "$1" >&2
-    cat "$work/crates/layer/src/main.rt" "$work/said" >&2
-    exit 1
-}
-
-accepted() { # LABEL TYPE
-    compile "$2" || fail "$1: the compiler refuses what it must accept"
-    ! grep -qF 'error[' "$work/said" || fail "$1: the compiler refuses what it must accept"
-    echo "$1: accepted, as it must be"
-}
-
-refused() { # LABEL ERROR TYPE
-    ! compile "$3" || fail "$1: the compiler accepts what it must refuse"
-    grep -qF "error[$2]" "$work/said" || fail "$1: not refused by [$2]"
-    ! grep -F 'error[' "$work/said" | grep -qvF "error[$2]" || fail "$1: refused by another error than [$2] too"
-    echo "$1: refused, as it must be"
-}
+program="$work/crates/layer/src/main.rt"
+. "$root/.ci/refused/trials"
 
 accepted 'an index over examined roads' ClockRoads
 refused 'an index over raw tables' mismatched-types ClockTables
