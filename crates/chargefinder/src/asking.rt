@@ -1,24 +1,24 @@
 // Asking for the soonest sites, in room that is made for each asking.
-use crate::moves::show_refusal;
+use crate::readings::Given;
+use crate::screen::Screen;
 use crate::ways::{Trip, print_way};
 use board::Board;
 use finder::{Answer, Listing, MOST_ASKED, Mark, Question, ask};
 use network::Guide;
 use queue::{Key, Slot};
-use std::fmt;
 
 // Where nothing is refused, the ways are those that the asking leaves.
 pub(crate) fn show_ask<G: Guide>(
-    rt: &HostRuntime,
+    screen: Screen,
     guide: &G,
     board: &Board,
     ways: &mut [u32],
     question: Question,
 ) -> anyhow::Result<()>
 where
-    G::Reading: fmt::Display,
+    G::Reading: Given,
 {
-    let heap = rt.alloc();
+    let heap = screen.rt.alloc();
     let junctions = guide.junctions() as usize;
     let mut marks = vec![in heap; Mark::new(); junctions]?;
     let nothing = Key {
@@ -41,14 +41,14 @@ where
         slots.as_mut_slice(),
     );
     match asked {
-        Ok(listing) => show_listing(rt, guide, ways, question, listing, answers.as_slice()),
-        Err(fault) => show_refusal(rt, fault),
+        Ok(listing) => show_listing(screen, guide, ways, question, listing, answers.as_slice()),
+        Err(fault) => screen.refusal(fault),
     }
 }
 
 // The sites that are listed, each with its reading and the arcs to it.
 fn show_listing<G: Guide>(
-    rt: &HostRuntime,
+    screen: Screen,
     guide: &G,
     ways: &[u32],
     question: Question,
@@ -56,13 +56,14 @@ fn show_listing<G: Guide>(
     answers: &[Answer<G::Reading>],
 ) -> anyhow::Result<()>
 where
-    G::Reading: fmt::Display,
+    G::Reading: Given,
 {
+    let rt = screen.rt;
     let Listing { count, steps } = listing;
     println!(rt; "listed {count} steps {steps}")?;
     for answer in answers.iter().take(count as usize) {
         let Answer { site, reading } = *answer;
-        print!(rt; "site {site} reading {reading}")?;
+        print!(rt; "site {site} reading {}", screen.reading(reading))?;
         if let Some(place) = guide.place(site) {
             let trip = Trip {
                 from: question.junction,

@@ -5,27 +5,32 @@ use crate::holding::{show_back, show_hold};
 use crate::layered::{Layered, Opened, Piled};
 use crate::moves::{show_carry, show_change, show_drive};
 use crate::readings::Given;
+use crate::screen::Screen;
 use crate::ways::{Trip, show_trace, show_ways};
 use board::Board;
-use console::Verb;
+use console::{Misuse, Verb};
 use desk::Desk;
 use finder::Question;
 use layers::{Closure, Detour};
 use network::{Guide, Network};
-use std::fmt;
 
-// What a line asks for.
+// What a line asks for, beside other roads.
 #[derive(Clone, Copy)]
-pub struct Command<'a> {
+pub struct Request<'a> {
     pub line: u64,
     pub verb: Verb,
     pub numbers: &'a [u32],
 }
 
-impl Command<'_> {
-    fn misuse(&self, rt: &HostRuntime, what: impl fmt::Display + Drop) -> anyhow::Result<()> {
-        let line = self.line;
-        Ok(println!(rt; "line {line}: {what}")?)
+impl Request<'_> {
+    // Its numbers are too few or too many.
+    fn misuse(&self, screen: Screen) -> anyhow::Result<()> {
+        let Request {
+            line,
+            verb,
+            numbers: _,
+        } = *self;
+        Ok(println!(screen.rt; "line {line}: '{verb}' {}", Misuse::Takes(verb))?)
     }
 }
 
@@ -33,120 +38,103 @@ impl Opened {
     // What needs no roads is answered here, the rest on the roads that are open.
     pub(crate) fn act(
         &mut self,
-        rt: &HostRuntime,
+        screen: Screen,
         desk: &mut Desk,
-        command: Command,
+        request: Request,
     ) -> anyhow::Result<()> {
-        match (command.verb, command.numbers) {
-            (Verb::Hold, [site]) => show_hold(rt, desk, *site),
-            (Verb::Hold, _) => command.misuse(rt, "hold takes a site"),
-            (Verb::Back, [name]) => show_back(rt, desk, *name),
-            (Verb::Back, _) => command.misuse(rt, "back takes a hold"),
-            (Verb::Ways, []) => show_ways(rt, self.ways.as_slice()),
-            (Verb::Ways, _) => command.misuse(rt, "ways takes nothing"),
+        match (request.verb, request.numbers) {
+            (Verb::Hold, [site]) => show_hold(screen, desk, *site),
+            (Verb::Back, [name]) => show_back(screen, desk, *name),
+            (Verb::Ways, []) => show_ways(screen.rt, self.ways.as_slice()),
             (Verb::Index, [segment, junction]) => {
-                show_index(rt, self.roads.index_row(*segment, *junction))
+                show_index(screen, self.roads.index_row(*segment, *junction))
             }
-            (Verb::Index, _) => command.misuse(rt, "index takes a segment and a junction"),
-            _ => self.act_on_roads(rt, desk.board(), command),
+            _ => self.act_on_roads(screen, desk.board(), request),
         }
     }
 
     fn act_on_roads(
         &mut self,
-        rt: &HostRuntime,
+        screen: Screen,
         board: &Board,
-        command: Command,
+        request: Request,
     ) -> anyhow::Result<()> {
         let ways = self.ways.as_mut_slice();
         match &mut self.roads {
-            Layered::Clock(roads) => act_on(rt, roads, ways, board, command),
-            Layered::Guided(roads) => act_on(rt, roads, ways, board, command),
-            Layered::Length(roads) => act_on(rt, roads, ways, board, command),
+            Layered::Clock(roads) => act_on(screen, roads, ways, board, request),
+            Layered::Guided(roads) => act_on(screen, roads, ways, board, request),
+            Layered::Length(roads) => act_on(screen, roads, ways, board, request),
         }
     }
 }
 
 // These commands go alike on every kind of roads.
 fn act_on<G: Guide>(
-    rt: &HostRuntime,
+    screen: Screen,
     roads: &mut Piled<G>,
     ways: &mut [u32],
     board: &Board,
-    command: Command,
+    request: Request,
 ) -> anyhow::Result<()>
 where
-    G::Reading: fmt::Display + Given,
+    G::Reading: Given,
 {
-    match (command.verb, command.numbers) {
+    match (request.verb, request.numbers) {
         (Verb::Ask, &[junction, number, k]) => {
             let question = Question {
                 junction,
                 number,
                 k,
             };
-            show_ask(rt, roads, board, ways, question)
+            show_ask(screen, roads, board, ways, question)
         }
-        (Verb::Ask, _) => command.misuse(rt, "ask takes a junction, a start number and how many"),
         (Verb::Trace, &[from, number, to]) => {
-            show_trace(rt, roads, ways, Trip { from, number, to })
+            show_trace(screen, roads, ways, Trip { from, number, to })
         }
-        (Verb::Trace, _) => {
-            command.misuse(rt, "trace takes a junction, a start number and a junction")
+        (Verb::Drive, [start, arcs @ ..]) => show_drive(screen, roads, *start, arcs),
+        (Verb::Carry | Verb::Estimate, [place, numbers @ ..]) => {
+            act_at_reading(screen, roads, request, *place, numbers)
         }
-        (Verb::Drive, [start, arcs @ ..]) => show_drive(rt, roads, *start, arcs),
-        (Verb::Drive, _) => command.misuse(rt, "drive takes a start number and arcs"),
-        (Verb::Carry | Verb::Estimate, _) => act_at_reading(rt, roads, command),
-        _ => change_layers(rt, roads, command),
+        _ => change_layers(screen, roads, request),
     }
 }
 
 // The commands that are given a reading, after an arc or a junction.
 fn act_at_reading<G: Guide>(
-    rt: &HostRuntime,
+    screen: Screen,
     roads: &Piled<G>,
-    command: Command,
+    request: Request,
+    place: u32,
+    numbers: &[u32],
 ) -> anyhow::Result<()>
 where
-    G::Reading: fmt::Display + Given,
+    G::Reading: Given,
 {
-    let units = G::Reading::numbers();
-    let given = match command.numbers {
-        [place, numbers @ ..] => G::Reading::given(numbers).map(|(reading, rest)| (
-            *place, reading, rest,
-        )),
-        [] => None,
-    };
-    match (command.verb, given) {
-        (Verb::Estimate, Some((junction, reading, sites))) => {
-            show_estimate(rt, roads, junction, reading, sites)
+    match (request.verb, G::Reading::given(numbers)) {
+        (Verb::Estimate, Some((reading, sites))) => {
+            show_estimate(screen, roads, place, reading, sites)
         }
-        (Verb::Estimate, None) => command.misuse(
-            rt,
-            format_args!("estimate takes a junction, then {units}, then sites"),
-        ),
-        (_, Some((arc, reading, []))) => show_carry(rt, roads, arc, reading),
-        _ => command.misuse(rt, format_args!("carry takes an arc, then {units}")),
+        (Verb::Carry, Some((reading, []))) => show_carry(screen, roads, place, reading),
+        _ => request.misuse(screen),
     }
 }
 
 fn change_layers<N: Network>(
-    rt: &HostRuntime,
+    screen: Screen,
     roads: &mut Piled<N>,
-    command: Command,
+    request: Request,
 ) -> anyhow::Result<()> {
-    match (command.verb, command.numbers) {
-        (Verb::Close, [arc]) => show_change(rt, "closed", roads.add(Closure { arc: *arc })),
-        (Verb::Reopen, [arc]) => show_change(rt, "reopened", roads.lift(*arc)),
+    match (request.verb, request.numbers) {
+        (Verb::Close, [arc]) => show_change(screen, "closed", roads.add(Closure { arc: *arc })),
+        (Verb::Reopen, [arc]) => show_change(screen, "reopened", roads.lift(*arc)),
         (Verb::Detour, [arc, units]) => {
             let detour = Detour {
                 arc: *arc,
                 units: *units,
             };
-            show_change(rt, "detoured", roads.below.add(detour))
+            show_change(screen, "detoured", roads.below.add(detour))
         }
-        (Verb::Lift, [arc]) => show_change(rt, "lifted", roads.below.lift(*arc)),
-        (Verb::Detour, _) => command.misuse(rt, "detour takes an arc and units"),
-        _ => command.misuse(rt, "close, reopen and lift take an arc"),
+        (Verb::Lift, [arc]) => show_change(screen, "lifted", roads.below.lift(*arc)),
+        _ => request.misuse(screen),
     }
 }

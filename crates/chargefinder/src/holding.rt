@@ -1,18 +1,20 @@
 // Holding bays, and handing them back.
-use crate::moves::show_refusal;
+use crate::screen::Screen;
 use desk::{Desk, DeskFault};
 
-pub(crate) fn show_hold(rt: &HostRuntime, desk: &mut Desk, site: u32) -> anyhow::Result<()> {
+pub(crate) fn show_hold(screen: Screen, desk: &mut Desk, site: u32) -> anyhow::Result<()> {
+    let rt = screen.rt;
     match desk.hold(site) {
         Ok(name) => println!(rt; "hold {name} site {site}")?,
-        Err(DeskFault::Refused(fault)) => show_refusal(rt, fault)?,
+        Err(DeskFault::Refused(fault)) => screen.refusal(fault)?,
         Err(DeskFault::NoNumber) => println!(rt; "no number is left for another hold")?,
         Err(DeskFault::NoMemory) => println!(rt; "no memory for another hold")?,
     }
     Ok(())
 }
 
-pub(crate) fn show_back(rt: &HostRuntime, desk: &mut Desk, name: u32) -> anyhow::Result<()> {
+pub(crate) fn show_back(screen: Screen, desk: &mut Desk, name: u32) -> anyhow::Result<()> {
+    let rt = screen.rt;
     match desk.back(name) {
         Some(site) => println!(rt; "freed site {site}")?,
         None => println!(rt; "no such hold")?,

@@ -1,12 +1,13 @@
 // The roads that commands are answered on: closures over detours over the kind chosen, and the ways known on them.
-use crate::moves::show_refusal;
+use crate::screen::Screen;
 use clock::ClockRoads;
-use console::{Kind, clock_tables, guided_roads, length_tables};
+use console::{Kind, clock_tables, length_tables};
 use depot::Depot;
 use guided::GuidedRoads;
 use layers::{Closures, Detours};
 use length::LengthRoads;
 use network::{Refusal, Returned};
+use opening::guided_roads;
 
 // What stands for no way.
 const NO_WAY: u32 = 65_535;
@@ -39,10 +40,11 @@ pub struct Opened {
 
 // Says which roads are open, or what they are refused by.
 pub(crate) fn open_roads(
-    rt: &HostRuntime,
+    screen: Screen,
     depot: &Depot,
     kind: Kind,
 ) -> anyhow::Result<Option<Opened>> {
+    let rt = screen.rt;
     match layered_roads(rt, depot, kind)? {
         Ok(roads) => {
             println!(rt; "roads {kind}")?;
@@ -52,7 +54,7 @@ pub(crate) fn open_roads(
             Ok(Some(Opened { roads, ways }))
         }
         Err(refusal) => {
-            show_refusal(rt, refusal)?;
+            screen.refusal(refusal)?;
             Ok(None)
         }
     }

@@ -1,65 +1,59 @@
 // What a van does on roads of any kind, and how their layers change.
+use crate::readings::Given;
+use crate::screen::Screen;
 use console::{carry_from, drive, start_of};
 use layers::LayerFault;
-use network::{Network, Refusal};
-use std::fmt;
+use network::Network;
 
-fn show_arrival<R: fmt::Display + Drop>(
-    rt: &HostRuntime,
-    arrival: Option<R>,
-) -> anyhow::Result<()> {
+fn show_arrival<R: Given>(screen: Screen, arrival: Option<R>) -> anyhow::Result<()> {
+    let rt = screen.rt;
     match arrival {
-        Some(reading) => println!(rt; "arrives {reading}")?,
+        Some(reading) => println!(rt; "arrives {}", screen.reading(reading))?,
         None => println!(rt; "nothing")?,
     }
     Ok(())
 }
 
-pub(crate) fn show_refusal(rt: &HostRuntime, fault: impl Into<Refusal>) -> anyhow::Result<()> {
-    let refusal: Refusal = fault.into();
-    Ok(println!(rt; "{refusal}")?)
-}
-
 pub(crate) fn show_carry<N: Network>(
-    rt: &HostRuntime,
+    screen: Screen,
     roads: &N,
     arc: u32,
     reading: Option<N::Reading>,
 ) -> anyhow::Result<()>
 where
-    N::Reading: fmt::Display,
+    N::Reading: Given,
 {
-    show_arrival(rt, carry_from(roads, arc, reading))
+    show_arrival(screen, carry_from(roads, arc, reading))
 }
 
 pub(crate) fn show_drive<N: Network>(
-    rt: &HostRuntime,
+    screen: Screen,
     roads: &N,
     start: u32,
     arcs: &[u32],
 ) -> anyhow::Result<()>
 where
-    N::Reading: fmt::Display,
+    N::Reading: Given,
 {
     match start_of(roads, start) {
         Ok(reading) => {
-            for arrival in drive(rt.alloc(), roads, reading, arcs)?.iter() {
-                show_arrival(rt, *arrival)?;
+            for arrival in drive(screen.rt.alloc(), roads, reading, arcs)?.iter() {
+                show_arrival(screen, *arrival)?;
             }
             Ok(())
         }
-        Err(fault) => show_refusal(rt, fault),
+        Err(fault) => screen.refusal(fault),
     }
 }
 
 // What a layer was told, or why it was not changed.
 pub(crate) fn show_change(
-    rt: &HostRuntime,
+    screen: Screen,
     done: &str,
     change: Result<(), LayerFault>,
 ) -> anyhow::Result<()> {
     match change {
-        Ok(()) => Ok(println!(rt; "{done}")?),
-        Err(fault) => show_refusal(rt, fault),
+        Ok(()) => Ok(println!(screen.rt; "{done}")?),
+        Err(fault) => screen.refusal(fault),
     }
 }

@@ -1,13 +1,13 @@
 // A depot, the roads on which its commands are answered, and the desk at which its bays are held.
-use crate::commands::Command;
+use crate::commands::Request;
 use crate::layered::{Opened, open_roads};
-use crate::moves::show_refusal;
-use console::{Kind, Verb};
-use depot::{Depot, by_name, read_entry, split_name};
+use crate::screen::Screen;
+use console::{Command, Kind, read_command};
+use depot::Depot;
 use desk::Desk;
 
 pub struct Session<'a> {
-    rt: &'a HostRuntime,
+    screen: Screen<'a>,
     depot: &'a Depot,
     opened: Opened,
     desk: Desk,
@@ -16,22 +16,22 @@ pub struct Session<'a> {
 impl<'a> Session<'a> {
     // None where the roads or the board are refused, which is said.
     pub(crate) fn open(
-        rt: &'a HostRuntime,
+        screen: Screen<'a>,
         depot: &'a Depot,
         kind: Kind,
     ) -> anyhow::Result<Option<Session<'a>>> {
-        let Some(opened) = open_roads(rt, depot, kind)? else {
+        let Some(opened) = open_roads(screen, depot, kind)? else {
             return Ok(None);
         };
-        match Desk::open(rt.alloc(), depot.board, depot.bays.as_slice()) {
+        match Desk::open(screen.rt.alloc(), depot.board, depot.bays.as_slice()) {
             Ok(desk) => Ok(Some(Session {
-                rt,
+                screen,
                 depot,
                 opened,
                 desk,
             })),
             Err(fault) => {
-                show_refusal(rt, fault)?;
+                screen.refusal(fault)?;
                 Ok(None)
             }
         }
@@ -40,7 +40,7 @@ impl<'a> Session<'a> {
     // Every hold that is still kept is handed back.
     pub(crate) fn close(self) {
         let Session {
-            rt: _,
+            screen: _,
             depot: _,
             opened: _,
             desk,
@@ -50,7 +50,7 @@ impl<'a> Session<'a> {
 
     // One command a line; how many lines there were. A line beyond those that can be numbered is not read.
     pub(crate) fn serve(&mut self) -> anyhow::Result<u64> {
-        let rt = self.rt;
+        let rt = self.screen.rt;
         let mut served = 0;
         for (number, line) in (1..=u64::MAX).zip(rt.lines(rt.alloc())) {
             self.answer(number, line?.as_bytes())?;
@@ -60,40 +60,25 @@ impl<'a> Session<'a> {
     }
 
     fn answer(&mut self, number: u64, line: &[u8]) -> anyhow::Result<()> {
-        let rt = self.rt;
-        let Some((name, rest)) = split_name(line) else {
-            return Ok(());
-        };
-        let Some(verb) = by_name(name) else {
-            println!(rt; "unknown command")?;
-            return Ok(());
-        };
-        if verb == Verb::Roads {
-            return self.change_roads(number, rest);
-        }
-        match read_entry(rt.alloc(), line) {
-            Ok(Some(entry)) => self.opened.act(
-                rt,
-                &mut self.desk,
-                Command {
+        let rt = self.screen.rt;
+        match read_command(rt.alloc(), line) {
+            Ok(Some(Command::Roads(kind))) => self.change_roads(kind),
+            Ok(Some(Command::Call(verb, numbers))) => {
+                let request = Request {
                     line: number,
                     verb,
-                    numbers: entry.numbers.as_slice(),
-                },
-            ),
+                    numbers: numbers.as_slice(),
+                };
+                self.opened.act(self.screen, &mut self.desk, request)
+            }
             Ok(None) => Ok(()),
             Err(fault) => Ok(println!(rt; "line {number}: {fault}")?),
         }
     }
 
     // Other roads of the same depot, with no arc closed, no detour and no way known; where they are refused, all stays.
-    fn change_roads(&mut self, number: u64, rest: &[u8]) -> anyhow::Result<()> {
-        let rt = self.rt;
-        let Some(kind) = split_name(rest).and_then(|(word, _)| by_name(word)) else {
-            println!(rt; "line {number}: roads takes clock, guided or length")?;
-            return Ok(());
-        };
-        if let Some(other) = open_roads(rt, self.depot, kind)? {
+    fn change_roads(&mut self, kind: Kind) -> anyhow::Result<()> {
+        if let Some(other) = open_roads(self.screen, self.depot, kind)? {
             self.opened = other;
         }
         Ok(())
@@ -108,7 +93,7 @@ impl<'a> Session<'a> {
     }
 
     fn show_worked(&mut self) -> anyhow::Result<()> {
-        let rt = self.rt;
+        let rt = self.screen.rt;
         for line in [
             "ask 0 28000 2",
             "ways",

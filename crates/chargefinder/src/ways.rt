@@ -1,7 +1,7 @@
 // The ways that the last asking left, and the drives that are traced by them.
-use crate::moves::show_refusal;
+use crate::readings::Given;
+use crate::screen::Screen;
 use network::{Network, Refusal};
-use std::fmt;
 use tracing::{Traced, trace};
 
 // From which junction and start number, to which junction.
@@ -53,23 +53,24 @@ fn print_arcs(rt: &HostRuntime, arcs: &[u32], count: u32) -> anyhow::Result<()> 
 }
 
 pub(crate) fn show_trace<N: Network>(
-    rt: &HostRuntime,
+    screen: Screen,
     network: &N,
     ways: &[u32],
     trip: Trip,
 ) -> anyhow::Result<()>
 where
-    N::Reading: fmt::Display,
+    N::Reading: Given,
 {
+    let rt = screen.rt;
     let mut arcs = vec![in rt.alloc(); 0u32; network.junctions() as usize]?;
     let Trip { from, number, to } = trip;
     match trace(network, from, number, to, ways, arcs.as_mut_slice()) {
         Ok(traced) => {
             let Traced { count, reading } = traced;
-            print!(rt; "arcs {count} reading {reading}")?;
+            print!(rt; "arcs {count} reading {}", screen.reading(reading))?;
             print_arcs(rt, arcs.as_slice(), count)?;
             Ok(println!(rt)?)
         }
-        Err(fault) => show_refusal(rt, fault),
+        Err(fault) => screen.refusal(fault),
     }
 }

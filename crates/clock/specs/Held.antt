@@ -1,7 +1,8 @@
 -- The lists that raw tables and clock roads hold, and what examining answers. Assumes nothing.
-use Rattle.std.specs.Prelude.{ℕ, Some, None, Ok, Err, vec_items, Option, Result, Vec}
+use Rattle.std.specs.Prelude.{ℕ, vec_items, Result, Vec}
 use Rattle.std.specs.declared.alloc.Global.{Global}
 use Rattle.network.specs.declared.lists.Streets.{Streets}
+use Rattle.network.specs.Refused.{answered}
 use Rattle.network.specs.declared.refusals.Refusal.{Refusal}
 use Rattle.network.specs.declared.returned.Returned.{Returned}
 use Rattle.clock.specs.Faults.{table_fault}
@@ -40,9 +41,5 @@ abbrev pub handed_back : Returned ClockTables TableFault → Refusal × Tables
 handed_back r = (table_fault r.fault, table_lists r.value)
 
 -- what examining answers: the tables, as roads where nothing refuses them
-abbrev pub answered : Tables → Option Refusal → Result Tables (Refusal × Tables)
-answered t None = Ok t
-answered t (Some refusal) = Err (refusal, t)
-
 abbrev pub examined : Tables → Result Tables (Refusal × Tables)
 examined t = answered t (table_refusal t)

@@ -1,9 +1,7 @@
 // Tables whose lists are as long as they may be, and one longer.
-use crate::bench::Bench;
-use crate::depot::Depot;
-use crate::sorts::Sort;
+use crate::plain::Depot;
+use crate::seeded::{Bench, Sort, Trouble};
 use crate::tables::examine_both;
-use crate::trouble::Trouble;
 use std::alloc::{AllocError, Global};
 
 // So many junctions, and at the first of them so many arcs with so many points each.

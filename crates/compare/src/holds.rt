@@ -3,19 +3,13 @@ ghost use Rattle.std.specs.Prelude.{◌≡◌, ℕ, ◌+◌, ◌≤◌};
 ghost use Rattle.board.specs.Held.{board_table, hold_bears};
 ghost use Rattle.compare.specs.Out.{out_at, one_at};
 
-use crate::askings::Answered;
-use crate::bays::Bays;
-use crate::bench::Bench;
-use crate::lent::Lent;
-use crate::questions::any_below;
-use crate::readings::Told;
-use crate::roads::Roads;
+use crate::beside::{Answered, Lent, Told, says_the_same, told_fault};
+use crate::plain::{Bays, Roads};
 use crate::scenes::ask_once;
-use crate::sorts::Sort;
-use crate::trouble::Trouble;
+use crate::seeded::{Bench, Sort, Trouble, any_below};
 use crate::twins::{Twins, offer_elsewhere};
 use board::{BackFault, Board, Hold, HoldFault};
-use network::{Guide, Refusal, Returned};
+use network::{Guide, Returned};
 
 // The plain counts of all three boards, the board of another number, and the last asking that was answered.
 #[derive(Drop)]
@@ -56,17 +50,6 @@ impl Stay {
     }
 }
 
-// Whether a board says of itself what the plain counts say.
-fn says_the_same(board: &Board, bays: &Bays) -> bool {
-    let free = board.free_sites();
-    let counted = (0..=bays.sites()).all(|site| {
-        board.out(site) == bays.out_at(site)
-            && board.bays(site) == bays.bays_at(site)
-            && free.has(site) == bays.is_free(site)
-    });
-    counted && board.number() == bays.number && board.sites() == bays.sites()
-}
-
 impl Play {
     fn counts(&mut self, at_other: bool) -> &mut Bays {
         if at_other {
@@ -89,8 +72,8 @@ impl Play {
         let refused = bays.hold_refusal(stay.site);
         bays.hold(stay.site);
         let bears = hold.number() == bays.number && hold.site() == stay.site;
-        bench.report.same(Sort::Holds, bears)?;
-        bench.report.same_refusal(Sort::Holdings, refused, None)
+        bench.same(Sort::Holds, bears)?;
+        bench.same_refusal(Sort::Holdings, refused, None)
     }
 
     fn see_refused(
@@ -100,25 +83,23 @@ impl Play {
         fault: HoldFault,
     ) -> Result<(), Trouble> {
         let refused = self.counts(stay.held_at_other).hold_refusal(stay.site);
-        bench
-            .report
-            .same_refusal(Sort::Holdings, refused, Some(Refusal::from(fault)))
+        bench.same_refusal(Sort::Holdings, refused, told_fault(Some(fault)))
     }
 
     // The second of the two boards took the hold if the first did not.
     fn see_back(&mut self, bench: &mut Bench, stay: Stay, end: End) -> Result<(), Trouble> {
         if self.elsewhere.number != end.number {
             let strange = self.elsewhere.back_refusal(end.number, end.site);
-            let answer = end.elsewhere.map(|fault| Refusal::from(fault));
-            bench.report.same_refusal(Sort::Offers, strange, answer)?;
-            bench.report.same(Sort::Returned, end.returned)?;
+            let answer = told_fault(end.elsewhere);
+            bench.same_refusal(Sort::Offers, strange, answer)?;
+            bench.same(Sort::Returned, end.returned)?;
         }
         let first = self.counts(stay.back_at_other);
         let refused = first.back_refusal(end.number, end.site);
         let took = stay.back_at_other == refused.is_none();
         self.counts(took).take_back(end.site);
-        let answer = end.said.map(|fault| Refusal::from(fault));
-        bench.report.same_refusal(Sort::Backs, refused, answer)
+        let answer = told_fault(end.said);
+        bench.same_refusal(Sort::Backs, refused, answer)
     }
 }
 
@@ -178,13 +159,9 @@ fn visit<G: Guide>(
 where
     G::Reading: Told + Drop,
 {
-    bench
-        .report
-        .same(Sort::Counts, says_the_same(&twins.one, &play.one))?;
-    bench
-        .report
-        .same(Sort::Counts, says_the_same(&twins.other, &play.other))?;
-    bench.report.same(Sort::Counts, says_the_same(&play.strange, &play.elsewhere))?;
+    bench.same(Sort::Counts, says_the_same(&twins.one, &play.one))?;
+    bench.same(Sort::Counts, says_the_same(&twins.other, &play.other))?;
+    bench.same(Sort::Counts, says_the_same(&play.strange, &play.elsewhere))?;
     let answered = if bench.random.once_in(2) {
         ask_once(bench, guide, roads, &twins.one, &play.one, lent)?
     } else {

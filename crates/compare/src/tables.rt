@@ -1,13 +1,10 @@
 // Tables are examined, and handed back.
-use crate::bench::Bench;
-use crate::damage::damage;
-use crate::depot::Depot;
-use crate::examining::{clock_refusal, length_refusal};
-use crate::sorts::Sort;
-use crate::trouble::Trouble;
+use crate::beside::{clock_tables, is_clock, is_length, length_tables, told_fault};
+use crate::plain::{Depot, clock_refusal, length_refusal};
+use crate::seeded::{Bench, Sort, Trouble, damage};
 use clock::{ClockRoads, ClockTables};
 use length::{LengthRoads, LengthTables};
-use network::{Refusal, Returned};
+use network::Returned;
 
 // The clock roads of a depot, where they are not refused.
 pub(crate) fn examine_clock(
@@ -16,16 +13,14 @@ pub(crate) fn examine_clock(
     sort: Sort,
 ) -> Result<Option<ClockRoads>, Trouble> {
     let expected = clock_refusal(depot);
-    match ClockRoads::try_from(depot.clock_tables()?) {
+    match ClockRoads::try_from(clock_tables(depot)?) {
         Ok(roads) => {
-            bench.report.same_refusal(sort, expected, None)?;
+            bench.same_refusal(sort, expected, None)?;
             Ok(Some(roads))
         }
         Err(Returned { fault, value }) => {
-            bench
-                .report
-                .same_refusal(sort, expected, Some(Refusal::from(fault)))?;
-            bench.report.same(Sort::GivenBack, depot.is_clock(&value))?;
+            bench.same_refusal(sort, expected, told_fault(Some(fault)))?;
+            bench.same(Sort::GivenBack, is_clock(depot, &value))?;
             Ok(None)
         }
     }
@@ -37,16 +32,14 @@ pub(crate) fn examine_length(
     sort: Sort,
 ) -> Result<Option<LengthRoads>, Trouble> {
     let expected = length_refusal(depot);
-    match LengthRoads::try_from(depot.length_tables()?) {
+    match LengthRoads::try_from(length_tables(depot)?) {
         Ok(roads) => {
-            bench.report.same_refusal(sort, expected, None)?;
+            bench.same_refusal(sort, expected, None)?;
             Ok(Some(roads))
         }
         Err(Returned { fault, value }) => {
-            bench
-                .report
-                .same_refusal(sort, expected, Some(Refusal::from(fault)))?;
-            bench.report.same(Sort::GivenBack, depot.is_length(&value))?;
+            bench.same_refusal(sort, expected, told_fault(Some(fault)))?;
+            bench.same(Sort::GivenBack, is_length(depot, &value))?;
             Ok(None)
         }
     }
@@ -56,13 +49,11 @@ pub(crate) fn examine_length(
 pub(crate) fn examine_both(bench: &mut Bench, depot: &Depot, sort: Sort) -> Result<(), Trouble> {
     if let Some(roads) = examine_clock(bench, depot, sort)? {
         let tables = ClockTables::from(roads);
-        bench.report.same(Sort::GivenBack, depot.is_clock(&tables))?;
+        bench.same(Sort::GivenBack, is_clock(depot, &tables))?;
     }
     if let Some(roads) = examine_length(bench, depot, sort)? {
         let tables = LengthTables::from(roads);
-        bench
-            .report
-            .same(Sort::GivenBack, depot.is_length(&tables))?;
+        bench.same(Sort::GivenBack, is_length(depot, &tables))?;
     }
     Ok(())
 }

@@ -1,15 +1,8 @@
 // Tracings of the library beside plain ones.
-use crate::bench::Bench;
-use crate::following::{Drive, drive_plainly};
-use crate::lent::front;
-use crate::lists::at;
-use crate::questions::{any_below, any_start};
-use crate::readings::{Far, Told};
-use crate::roads::Roads;
-use crate::sorts::Sort;
-use crate::trouble::Trouble;
-use finder::Question;
-use network::{Network, Refusal};
+use crate::beside::{Told, front, told_fault};
+use crate::plain::{Drive, Far, Question, Roads, at, drive_plainly};
+use crate::seeded::{Bench, Sort, Trouble, any_below, any_start};
+use network::Network;
 use std::alloc::AllocError;
 use tracing::trace;
 
@@ -31,24 +24,20 @@ where
     let lent = front(arcs, drive.arcs);
     let result = trace(network, drive.from, drive.number, drive.to, ways, lent);
     let plain = drive_plainly(bench.heap, roads, drive, ways)?;
-    let said = result.err().map(|fault| Refusal::from(fault));
+    let said = told_fault(result.err());
     let refused = plain.arrived.err();
-    bench.report.same_refusal(Sort::Traced, refused, said)?;
+    bench.same_refusal(Sort::Traced, refused, said)?;
     let (Ok(traced), Ok(arrived)) = (result, plain.arrived) else {
-        bench
-            .report
-            .same(Sort::Arcs, &*arcs == expected.as_slice())?;
+        bench.same(Sort::Arcs, &*arcs == expected.as_slice())?;
         return Ok(None);
     };
     let count = traced.count as usize;
     let same = count == plain.arcs.len() && traced.reading.told() == arrived;
-    bench.report.same(Sort::Drives, same)?;
+    bench.same(Sort::Drives, same)?;
     for (there, arc) in expected.iter_mut().zip(plain.arcs.iter()) {
         *there = *arc;
     }
-    bench
-        .report
-        .same(Sort::Arcs, &*arcs == expected.as_slice())?;
+    bench.same(Sort::Arcs, &*arcs == expected.as_slice())?;
     Ok(Some(arrived))
 }
 
@@ -57,7 +46,7 @@ fn any_drive(bench: &mut Bench, roads: &Roads) -> Drive {
     let needed = n.saturating_sub(1);
     Drive {
         from: any_below(&mut bench.random, n),
-        number: any_start(&mut bench.random, roads.kind),
+        number: any_start(&mut bench.random, roads),
         to: any_below(&mut bench.random, n),
         arcs: if bench.random.once_in(20) {
             needed.saturating_sub(1)
@@ -104,7 +93,7 @@ pub(crate) fn compare_by_any_ways<N: Network>(
 where
     N::Reading: Told,
 {
-    if roads.is_large() {
+    if roads.depot.is_large() {
         return Ok(());
     }
     let mut ways = any_ways(bench, roads)?;
@@ -130,7 +119,7 @@ pub(crate) fn compare_by_asking<N: Network>(
 where
     N::Reading: Told,
 {
-    let drives = if roads.is_large() { 4 } else { 16 };
+    let drives = if roads.depot.is_large() { 4 } else { 16 };
     for _ in 0..drives {
         let mut drive = any_drive(bench, roads);
         drive.from = question.junction;
@@ -161,7 +150,5 @@ where
         arcs: roads.depot.junctions(),
     };
     let arrived = compare_tracing(bench, network, roads, drive, ways, arcs)?;
-    bench
-        .report
-        .same(Sort::ListedDrives, arrived == Some(reading))
+    bench.same(Sort::ListedDrives, arrived == Some(reading))
 }

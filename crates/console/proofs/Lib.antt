@@ -1,3 +1,2 @@
 pub mod Driving
 pub mod Naming
-pub mod Laying

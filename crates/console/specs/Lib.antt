@@ -2,4 +2,9 @@ pub mod Kinds
 pub mod Drives
 pub mod Verbs
 pub mod Estimates
-pub mod Guided
+pub mod Messages
+pub mod Commands
+pub mod Told
+pub mod Times
+pub mod Options
+pub mod Chosen

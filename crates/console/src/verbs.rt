@@ -1,7 +1,9 @@
 // The commands, by their names.
+ghost use Rattle.std.specs.Prelude.{◌≡◌, Some};
 ghost use Rattle.console.specs.Verbs.{verb_name, verbs};
 
 use depot::{Listed, Named};
+use std::fmt;
 
 #[derive(Clone, Copy, Debug, PartialEq, Eq)]
 pub enum Verb {
@@ -21,26 +23,34 @@ pub enum Verb {
     Roads,
 }
 
+impl Verb {
+    fn as_str(self) -> &'static str
+        ensures { result.now ≡ verb_name self }
+    {
+        match self {
+            Verb::Carry => "carry",
+            Verb::Drive => "drive",
+            Verb::Estimate => "estimate",
+            Verb::Index => "index",
+            Verb::Close => "close",
+            Verb::Reopen => "reopen",
+            Verb::Detour => "detour",
+            Verb::Lift => "lift",
+            Verb::Ask => "ask",
+            Verb::Ways => "ways",
+            Verb::Trace => "trace",
+            Verb::Hold => "hold",
+            Verb::Back => "back",
+            Verb::Roads => "roads",
+        }
+    }
+}
+
 impl Named for Verb {
     ghost called = { verb_name };
 
     fn name(&self) -> &'static [u8] {
-        match self {
-            Verb::Carry => b"carry",
-            Verb::Drive => b"drive",
-            Verb::Estimate => b"estimate",
-            Verb::Index => b"index",
-            Verb::Close => b"close",
-            Verb::Reopen => b"reopen",
-            Verb::Detour => b"detour",
-            Verb::Lift => b"lift",
-            Verb::Ask => b"ask",
-            Verb::Ways => b"ways",
-            Verb::Trace => b"trace",
-            Verb::Hold => b"hold",
-            Verb::Back => b"back",
-            Verb::Roads => b"roads",
-        }
+        self.as_str().as_bytes()
     }
 }
 
@@ -64,5 +74,13 @@ impl Listed for Verb {
             Verb::Back,
             Verb::Roads,
         ]
+    }
+}
+
+impl fmt::Display for Verb {
+    ghost output = { λ verb. Some (verb_name verb) };
+
+    fn fmt<W: fmt::Write>(&self, f: &mut fmt::Formatter<W>) -> fmt::Result {
+        f.write_str(self.as_str())
     }
 }

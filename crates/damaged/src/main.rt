@@ -4,11 +4,12 @@
 
 use board::Board;
 use clock::ClockRoads;
-use console::{Kind, clock_tables, guided_roads, length_tables};
+use console::{Kind, clock_tables, length_tables};
 use depot::{Depot, read_depot};
 use finder::{Question, ask};
 use length::LengthRoads;
 use network::{Guide, Refusal, Returned};
+use opening::guided_roads;
 use std::{env, fs};
 
 fn main(rt: HostRuntime) -> anyhow::Result<()> {

@@ -3,7 +3,7 @@ use Rattle.std.proofs.Common.{◌≡◌, ℕ, ◌<◌, ◌≤◌, Bool, true, fa
 use Rattle.std.specs.List.{prefix_len, position, position_or_len, onto_first}
 use Rattle.std.proofs.lemmas.List.{drop_all}
 use borrow.Author.Tests.{ltb-true, ltb-false}
-use Rattle.depot.specs.Cuts.{blank, words}
+use Rattle.depot.specs.Cuts.{blank, past_word, words}
 
 -- a byte that is part of a word
 abbrev pub solid : ℕ → Bool
@@ -63,7 +63,7 @@ begins_at bs o e =
 pub no_word : (bs : List ℕ) → position solid bs ≡ None → words bs ≡ []
 no_word bs none = sym (skip_blank bs) ∙ ap words (drop_all _ bs (begins_at bs None none))
 
-pub word_cut : (bs from word rest : List ℕ) (k n : ℕ) → position solid bs ≡ Some k → from ≡ drop k bs → n ≡ prefix_len solid from → word ≡ take n from → rest ≡ drop n from → (words bs ≡ word ∷ words rest) × (length rest < length bs)
+pub word_cut : (bs from word rest : List ℕ) (k n : ℕ) → position solid bs ≡ Some k → from ≡ drop k bs → n ≡ prefix_len solid from → word ≡ take n from → rest ≡ drop n from → (words bs ≡ word ∷ words rest) × (rest ≡ past_word bs) × (length rest < length bs)
 word_cut bs [] word rest k n e f g front back = let at = begins_at bs (Some k) e in absurd (omega (arith, at, ap length f, length-drop k bs))
 word_cut bs (b ∷ from) word rest k n e f g front back =
     let at = begins_at bs (Some k) e in
@@ -71,4 +71,4 @@ word_cut bs (b ∷ from) word rest k n e f g front back =
     let start = first_solid bs b from (sym cut) in
     let whole : words bs ≡ words (b ∷ from) = sym (skip_blank bs) ∙ ap words (sym cut) in
     let some : 0 < n = rw g (some_solid b from start) in
-    (rw (front, back, g) (whole ∙ word_off b from start), omega (arith, at.1, some, ap length back, length-drop n (b ∷ from), ap length f, length-drop k bs))
+    (rw (front, back, g) (whole ∙ word_off b from start), back ∙ ap (λ m. drop m (b ∷ from)) g ∙ ap (λ l. drop (prefix_len solid l) l) cut, omega (arith, at.1, some, ap length back, length-drop n (b ∷ from), ap length f, length-drop k bs))

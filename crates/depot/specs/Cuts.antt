@@ -1,5 +1,5 @@
 -- How a text is cut into lines, and a line into words.
-use Rattle.std.specs.Prelude.{ℕ, Bool, cond, not, ◌||◌, List, [], ◌∷◌, take, ◌==◌}
+use Rattle.std.specs.Prelude.{ℕ, Bool, cond, not, ◌||◌, List, [], ◌∷◌, drop, take, ◌==◌}
 use Rattle.std.specs.List.{prefix_len, onto_first}
 
 -- the lines of a text: a newline ends a line, and a last line may do without
@@ -28,3 +28,11 @@ begun b (c ∷ rest) ws = cond (blank c) ((b ∷ []) ∷ ws) (onto_first b ws)
 abbrev pub words : List ℕ → List (List ℕ)
 words [] = []
 words (b ∷ bs) = cond (blank b) (words bs) (begun b bs (words bs))
+
+-- some bytes without the blanks that they begin with
+abbrev pub unblanked : List ℕ → List ℕ
+unblanked bs = drop (prefix_len blank bs) bs
+
+-- what follows the first word of some bytes
+abbrev pub past_word : List ℕ → List ℕ
+past_word bs = drop (prefix_len (λ b. not (blank b)) (unblanked bs)) (unblanked bs)

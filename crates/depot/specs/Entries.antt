@@ -1,7 +1,6 @@
--- What a line says: a name and its numbers.
-use Rattle.std.specs.Prelude.{ℕ, List, [], ◌∷◌, Some, None, Ok, Err, Option, Result}
+-- What the words after a name say: numbers.
+use Rattle.std.specs.Prelude.{ℕ, List, [], ◌∷◌, Ok, Err, Result}
 use Rattle.depot.specs.declared.fault.What.{What}
-use Rattle.depot.specs.Cuts.{code, words}
 use Rattle.depot.specs.Numbers.{number_of}
 
 -- a word, and what is wrong with it
@@ -22,17 +21,3 @@ read_first w (Err what) rest = Err (w, what)
 abbrev pub numbers_in : List (List ℕ) → Result (List ℕ) Wrong
 numbers_in [] = Ok []
 numbers_in (w ∷ ws) = read_first w (number_of w) (numbers_in ws)
-
--- a name and its numbers
-abbrev pub named : List ℕ → Result (List ℕ) Wrong → Result (Option (List ℕ × List ℕ)) Wrong
-named name (Ok ns) = Ok (Some (name, ns))
-named name (Err wrong) = Err wrong
-
--- the entry that words make: the first is its name, and the others are its numbers
-abbrev pub entry : List (List ℕ) → Result (Option (List ℕ × List ℕ)) Wrong
-entry [] = Ok None
-entry (name ∷ ws) = named name (numbers_in ws)
-
--- the entry of a line, none where the line has no word, or its first wrong word
-abbrev pub entry_of : List ℕ → Result (Option (List ℕ × List ℕ)) Wrong
-entry_of line = entry (words (code line))

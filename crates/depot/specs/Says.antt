@@ -1,10 +1,9 @@
 -- What a result of the reader says, by the items of its vectors.
-use Rattle.std.specs.Prelude.{◌≡◌, ℕ, List, Some, None, Ok, Err, vec_items, Option, Result}
+use Rattle.std.specs.Prelude.{◌≡◌, ℕ, List, Ok, Err, vec_items, Result}
 use Rattle.depot.specs.declared.fault.What.{What}
 use Rattle.depot.specs.declared.fault.WordFault.{WordFault}
 use Rattle.depot.specs.declared.fault.TextFault.{TextFault}
 use Rattle.depot.specs.declared.fault.TextFault.TheVariants as fault
-use Rattle.depot.specs.declared.entry.Entry.{Entry}
 use Rattle.depot.specs.Entries.{Wrong}
 
 -- the fault names this word, unless there was no memory to hold it
@@ -25,8 +24,3 @@ wrong f = (vec_items f.word, f.what)
 -- the same, of one line
 abbrev pub Says : {T X : Type 0} → (T → X) → Result T (TextFault WordFault) → Result X Wrong → Type 0
 Says f r m = Tells f wrong r m
-
--- the name and the numbers of an entry
-abbrev pub told : Option Entry → Option (List ℕ × List ℕ)
-told None = None
-told (Some e) = Some (vec_items e.name, vec_items e.numbers)

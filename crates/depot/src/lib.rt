@@ -12,7 +12,8 @@ mod named;
 mod number;
 mod part;
 
+pub use cut::first_word;
 pub use depots::{Depot, read_depot};
-pub use entry::{Entry, read_entry, split_name};
+pub use entry::{read_numbers, split_name};
 pub use fault::{EntryFault, LineFault, ReadFault, TextFault, What, WordFault};
 pub use named::{Listed, Named, by_name, find_named};

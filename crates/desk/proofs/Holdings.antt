@@ -112,6 +112,9 @@ module _ (b : Board) (xs ys : List Kept) (x : Kept) (is : xs ≡ ys ++ x ∷ [])
   pub popped_accepted : back_refusal (board_table b) (hold_bears x.hold).0 (hold_bears x.hold).1 ≡ None
   popped_accepted = accepted b ys [] x ended
 
+  pub popped_bears : (hold_bears x.hold).0 ≡ (board_table b).number
+  popped_bears = (bears b ys [] x ended).0
+
   pub popped_tallies : (t : Table) → t ≡ one_less_out None (board_table b) (hold_bears x.hold).1 → Tallies t ys
   popped_tallies t e = subst (λ u. Tallies u ys) (sym e) (subst (Tallies (one_less_out None (board_table b) (hold_bears x.hold).1)) (append-nil ys) (tallies_fewer b ys [] x ended))
 

@@ -1,5 +1,5 @@
 -- A desk as its board's table and what it keeps, and what its calls make of that. Assumes nothing.
-use Rattle.std.specs.Prelude.{◌≡◌, ℕ, ◌+◌, ◌-◌, ◌^◌, List, [], ◌∷◌, ◌++◌, Some, None, Ok, Err, vec_items, Option, Result}
+use Rattle.std.specs.Prelude.{◌≡◌, ℕ, ◌+◌, ◌-◌, ◌^◌, ◌<◌, List, [], ◌∷◌, ◌++◌, Some, None, Ok, Err, vec_items, Option, Result}
 use Rattle.board.specs.Faults.{hold_fault}
 use Rattle.board.specs.Held.{board_table}
 use Rattle.board.specs.Tables.{Table, first_state, hold_refusal, one_more_out, one_less_out}
@@ -25,12 +25,12 @@ just_opened number bays = record { table = first_state number bays; kept = []; n
 abbrev pub one_more_kept : State → ℕ → State
 one_more_kept d s = record { table = one_more_out None d.table s; kept = d.kept ++ (d.next, s) ∷ []; next = d.next + 1 }
 
--- what holding answers, and leaves: only a hold that is granted alters anything
+-- what holding answers, and leaves: want of a number comes first, and only a hold that is granted alters anything
 abbrev pub Holds : State → (site : ℕ) → Result ℕ DeskFault → State → Type 0
 Holds d s (Ok n) after = (hold_refusal d.table s ≡ None) × (n ≡ d.next) × (after ≡ one_more_kept d s)
-Holds d s (Err (Refused fault)) after = (hold_refusal d.table s ≡ Some (hold_fault fault)) × (after ≡ d)
+Holds d s (Err (Refused fault)) after = (hold_refusal d.table s ≡ Some (hold_fault fault)) × (d.next < 2 ^ 32 - 1) × (after ≡ d)
 Holds d s (Err NoNumber) after = (d.next ≡ 2 ^ 32 - 1) × (after ≡ d)
-Holds d s (Err NoMemory) after = after ≡ d
+Holds d s (Err NoMemory) after = (d.next < 2 ^ 32 - 1) × (after ≡ d)
 
 -- what is left when the hold of a site that is kept by a number is handed back
 abbrev pub handed_back : Option ℕ → State → ℕ → State

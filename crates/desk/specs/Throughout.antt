@@ -1,5 +1,5 @@
 -- What a desk's calls are to its board, over every list of calls. Assumes nothing.
-use Rattle.std.specs.Prelude.{ℕ, List, ◌∷◌, Some, None, Ok, Err, Option, Result}
+use Rattle.std.specs.Prelude.{ℕ, List, [], ◌∷◌, Some, None, Ok, Err, Option, Result}
 use Rattle.board.specs.Calls.{Call, holding, handing_back, First}
 use Rattle.board.specs.Faults.{hold_fault}
 use Rattle.board.specs.Promise.{Right, hold_granted, hold_ended, call_refused}
@@ -29,3 +29,13 @@ after_back (Some s) number past = handing_back number s ∷ past
 abbrev pub RightlyBack : First → List Call → Option ℕ → Type 0
 RightlyBack first past None = Unit {0}
 RightlyBack first past (Some s) = Right first past (handing_back first.number s) hold_ended
+
+-- the calls on the board after all that is kept was handed back, the last first
+abbrev pub after_closing : (kept : List (ℕ × ℕ)) → (number : ℕ) → List Call → List Call
+after_closing [] number past = past
+after_closing (k ∷ ks) number past = handing_back number k.1 ∷ after_closing ks number past
+
+-- what is promised of it: each hold is taken back
+abbrev pub RightlyClosed : First → List Call → (kept : List (ℕ × ℕ)) → Type 0
+RightlyClosed first past [] = Unit {0}
+RightlyClosed first past (k ∷ ks) = Right first (after_closing ks first.number past) (handing_back first.number k.1) hold_ended × RightlyClosed first past ks

@@ -2,9 +2,10 @@
 ghost use Rattle.std.specs.Prelude.{◌≡◌, IfOk};
 ghost use Rattle.board.specs.Faults.{board_fault};
 ghost use Rattle.board.specs.Held.{board_table};
-ghost use Rattle.board.specs.Promise.{StandsNew};
+ghost use Rattle.board.specs.Promise.{OverEveryPast, StandsNew};
 ghost use Rattle.board.specs.Tables.{first_state, board_refusal};
 ghost use Rattle.desk.specs.States.{desk_state, just_opened};
+ghost use Rattle.desk.specs.Throughout.{after_closing, RightlyClosed};
 ghost use Rattle.network.specs.Refused.{refused};
 
 use crate::desk::Desk;
@@ -34,7 +35,8 @@ impl Desk {
 
     // Every hold is handed back, and every bay is free again.
     pub fn close(self) -> Board
-        ensures { board_table result ≡ first_state (desk_state self).table.number (desk_state self).table.bays }
+        ensures table { board_table result ≡ first_state (desk_state self).table.number (desk_state self).table.bays }
+        ensures throughout { OverEveryPast (desk_state self).table (λ first past. RightlyClosed first past (desk_state self).kept) (λ first past. after_closing (desk_state self).kept first.number past) (board_table result) }
     {
         let Desk {
             mut board,

@@ -9,6 +9,7 @@ use network::{Guide, SiteSet};
 use queue::{Key, Queue};
 
 // It waits by its estimate; where there is none it does not wait, even if it did.
+#[inline(always)]
 pub(crate) fn wait<G: Guide>(
     guide: &G,
     queue: &mut Queue<'_, Key>,

@@ -17,6 +17,7 @@ pub(crate) struct Taken<R> {
 
 impl<R: Copy> Labels<'_, R> {
     // It waits no more.
+    #[inline(always)]
     pub(crate) fn take_least(&mut self) -> Option<Taken<R>>
         requires read { WaitersRead self.old }
         ensures marks { self.new.marks.now ≡ self.old.marks.now }

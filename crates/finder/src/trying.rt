@@ -23,6 +23,7 @@ impl<R: Copy> Labels<'_, R> {
     }
 
     // An arc that is entered with the reading.
+    #[inline(always)]
     fn try_arc<G: Guide<Reading = R>>(
         &mut self,
         guide: &G,
@@ -53,6 +54,7 @@ impl<R: Copy> Labels<'_, R> {
     }
 
     // Each outgoing arc in turn, by rising number.
+    #[inline(always)]
     pub(crate) fn try_arcs<G: Guide<Reading = R>>(
         &mut self,
         guide: &G,

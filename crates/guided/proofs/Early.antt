@@ -9,7 +9,7 @@ use Rattle.laying.specs.Admitted.{lay_refusal, lists_fit}
 use Rattle.laying.proofs.Admitting.{has_passed}
 use Rattle.least.specs.Segments.{day_refusal}
 use Rattle.network.specs.First.{unless}
-use Rattle.network.specs.Refused.{refusal}
+use Rattle.network.specs.Refused.{answered, refusal}
 use Rattle.network.specs.declared.refusals.Places.TheVariants.{Call}
 use Rattle.network.specs.declared.refusals.Refusal.{Refusal}
 use Rattle.network.proofs.First.{clash, none_is, or_none, unless_none}
@@ -17,7 +17,7 @@ use Rattle.network.proofs.Refusing.{Arcs, arcs_say}
 use Rattle.rows.specs.declared.entry.Entry.{Entry}
 use Rattle.rows.proofs.Existence.{swept, swept_defined}
 use Rattle.guided.specs.Lists.{Lists, network_of, arc_times, difference_from}
-use Rattle.guided.specs.Loads.{answered, early_refusal, load_refusal, RightRows, RowsOf, HasRows}
+use Rattle.guided.specs.Loads.{early_refusal, load_refusal, RightRows, RowsOf, HasRows}
 use Rattle.guided.specs.Faults.{differs}
 
 pub tables_arcs : (t : Tables) → table_refusal t ≡ None → Arcs t.starts t.heads

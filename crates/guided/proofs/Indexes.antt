@@ -10,7 +10,7 @@ use Rattle.rows.proofs.Places.{index_same}
 use Rattle.rows.proofs.Reading.{index_offers}
 use Rattle.guided.specs.GuidedLaws.{arc_within, least_index}
 use Rattle.guided.specs.Indexed.{lists_of}
-use Rattle.guided.specs.Lists.{Lists, network_of, arc_times, entry_count, difference_from}
+use Rattle.guided.specs.Lists.{Lists, network_of, arc_times, difference_from}
 use Rattle.guided.specs.Offers.{offered_of, own_difference}
 use Rattle.guided.specs.Loads.{RightRows}
 use Rattle.guided.specs.declared.indexed.IndexedRoads.{IndexedRoads}
@@ -27,7 +27,7 @@ module _ (r : IndexedRoads) where
   right_rows = (λ i. swept (network_of x) (arc_times x i) x.nearest (network_of x).junctions, λ i l. swept_defined (network_of x) (arc_times x i) x.nearest ok.head_within)
 
   -- no time of the index is great
-  pub low_times : own_difference x ≡ None → (p : ℕ) → p < entry_count x → get_or x.times p 0 ≤ 4095 * 172800
+  pub low_times : own_difference x ≡ None → (p : ℕ) → p < length x.segments * (network_of x).junctions * x.nearest → get_or x.times p 0 ≤ 4095 * 172800
   low_times e p l =
       let few = ok.few_junctions in
       let t = index_times (network_of x) ok.head_within (length x.segments) x.nearest (arc_times x) x.sites x.times (least_index r e) 172800 (λ i a k m. (arc_within r i a k m).1) p l in

@@ -1,5 +1,5 @@
 -- The lists of clock roads with an index, and what they say. Assumes nothing.
-use Rattle.std.specs.Prelude.{ℕ, ◌+◌, ◌*◌, ◌&&◌, List, length, Option, nat_lt, slice_range}
+use Rattle.std.specs.Prelude.{ℕ, ◌+◌, ◌&&◌, List, length, Option, nat_lt, slice_range}
 use Rattle.clock.specs.Model.{clock_roads}
 use Rattle.clock.specs.Tables.{Tables}
 use Rattle.least.specs.Segments.{segment_at, segment_end}
@@ -23,10 +23,6 @@ pub record Lists : Type 0 where
 -- the network of the tables
 abbrev pub network_of : Lists → Roads
 network_of x = clock_roads x.tables
-
--- how many entries there are
-abbrev pub entry_count : Lists → ℕ
-entry_count x = length x.segments * (network_of x).junctions * x.nearest
 
 -- the least time of each arc in a segment
 abbrev pub arc_times : Lists → ℕ → ℕ → ℕ

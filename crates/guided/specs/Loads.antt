@@ -1,8 +1,9 @@
 -- What loading refuses, and what it answers. Assumes nothing.
-use Rattle.std.specs.Prelude.{◌≡◌, ℕ, ◌<◌, List, length, Some, None, Ok, Err, Option, Result}
+use Rattle.std.specs.Prelude.{◌≡◌, ℕ, ◌<◌, List, length, None, Option, Result}
 use Rattle.std.specs.Option.{option_map, option_or}
 use Rattle.clock.specs.Points.{table_refusal}
 use Rattle.laying.specs.Admitted.{lay_refusal}
+use Rattle.network.specs.Refused.{answered}
 use Rattle.network.specs.declared.refusals.Refusal.{Refusal}
 use Rattle.network.specs.declared.returned.Returned.{Returned}
 use Rattle.rows.specs.Rows.{Defined}
@@ -32,11 +33,6 @@ load_refusal x work rows = option_or (early_refusal x work) (option_map differs 
 abbrev pub handed_back : Returned IndexTables LoadFault → Refusal × Lists
 handed_back r = (load_fault r.fault, index_lists r.value)
 
--- what loading answers: the lists, as guided roads where nothing refuses them
-abbrev pub answered : Lists → Option Refusal → Result Lists (Refusal × Lists)
-answered x None = Ok x
-answered x (Some refusal) = Err (refusal, x)
-
 -- whether rows are those of the index, so far as nothing is refused before it is looked at
 abbrev pub RowsOf : Lists → (work : ℕ) → (ℕ → ℕ → List Entry) → Type 0
 RowsOf x work rows = early_refusal x work ≡ None → RightRows x rows
@@ -45,6 +41,6 @@ RowsOf x work rows = early_refusal x work ≡ None → RightRows x rows
 abbrev pub HasRows : Lists → (work : ℕ) → Type 0
 HasRows x work = (rows : ℕ → ℕ → List Entry) × RowsOf x work rows
 
--- whether an answer of loading is the one by such rows
+-- whether an answer of loading is the one by such rows: the lists, as guided roads where nothing refuses them
 abbrev pub Loads : Lists → (work : ℕ) → Result Lists (Refusal × Lists) → Type 0
 Loads x work answer = (rows : ℕ → ℕ → List Entry) → RowsOf x work rows → answer ≡ answered x (load_refusal x work rows)

@@ -4,7 +4,7 @@ use Rattle.std.specs.List.{position_or_len, remove}
 use Rattle.std.proofs.lemmas.Bool.Decides.{nat_tests}
 use Rattle.network.specs.Layers.{Layer, stands, layered}
 use Rattle.network.specs.Model.{Roads}
-use Rattle.layers.specs.Changes.{without}
+use Rattle.network.specs.Without.{without}
 use Rattle.layers.specs.Layered.{carried_by}
 
 module _ {X : Type 0} (on : X → ℕ) (a : ℕ) where

@@ -1,5 +1,5 @@
 -- How a layer's list changes. Assumes nothing.
-use Rattle.std.specs.Prelude.{ℕ, Bool, cond, not, List, [], ◌∷◌, length, Some, None, Option, ◌==◌, nat_lt}
+use Rattle.std.specs.Prelude.{ℕ, Bool, not, List, length, Some, None, Option, nat_lt}
 use Rattle.std.specs.Option.{option_or}
 use Rattle.network.specs.First.{unless}
 use Rattle.network.specs.Layers.{stands}
@@ -9,11 +9,6 @@ use Rattle.network.specs.declared.refusals.Refusal.{Refusal}
 
 -- what stands on an arc is something of which `on` tells the arc
 module _ {X : Type 0} (on : X → ℕ) where
-  -- the list without what stands on the arc, the others in their order
-  abbrev pub without : ℕ → List X → List X
-  without a [] = []
-  without a (x ∷ xs) = cond (on x == a) xs (x ∷ without a xs)
-
   -- adding is refused where there is no such arc, or it does not fit, or it is there, or there is no room
   abbrev pub adding : (arcs most : ℕ) → (fits : Bool) → List X → ℕ → Option Refusal
   adding arcs most fits xs a =

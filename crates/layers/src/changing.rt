@@ -1,8 +1,9 @@
 // Adding obstacles, and lifting them.
 ghost use Rattle.std.specs.Prelude.{◌≡◌, [], ◌∷◌, ◌++◌};
-ghost use Rattle.layers.specs.Changes.{adding, lifting, without, changed};
+ghost use Rattle.layers.specs.Changes.{adding, lifting, changed};
 ghost use Rattle.layers.specs.Faults.{layer_fault};
 ghost use Rattle.network.specs.Refused.{refused};
+ghost use Rattle.network.specs.Without.{without};
 
 use crate::faults::LayerFault;
 use crate::layer::Layer;

@@ -1,5 +1,5 @@
 // A closure: an arc that carries nothing.
-ghost use Rattle.std.specs.Prelude.{◌≡◌, true, map};
+ghost use Rattle.std.specs.Prelude.{◌≡◌, ◌-◌, true, length, map};
 ghost use Rattle.layers.specs.Firsts.{closures_first};
 ghost use Rattle.network.specs.Layers.{closures};
 
@@ -14,6 +14,15 @@ pub struct Closure {
 }
 
 pub type Closures<G> = Layer<G, ArrayVec<Closure, 64>>;
+
+impl<G> Closures<G> {
+    // How many more arcs may be closed.
+    pub fn room(&self) -> usize
+        ensures { result ≡ 64 - length self.now.obstacles.items }
+    {
+        self.obstacles.remaining_capacity()
+    }
+}
 
 impl Obstacle for Closure {
     ghost on = { λ c. c.arc };

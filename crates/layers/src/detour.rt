@@ -1,5 +1,5 @@
 // A detour: an arc, and the units by which it takes longer.
-ghost use Rattle.std.specs.Prelude.{◌≡◌, ◌&&◌, map, nat_le};
+ghost use Rattle.std.specs.Prelude.{◌≡◌, ◌-◌, ◌&&◌, length, map, nat_le};
 ghost use Rattle.layers.specs.Firsts.{detours_first};
 ghost use Rattle.network.specs.Layers.{detours};
 
@@ -17,6 +17,15 @@ pub struct Detour {
 }
 
 pub type Detours<G> = Layer<G, ArrayVec<Detour, 32>>;
+
+impl<G> Detours<G> {
+    // How many more arcs may have a detour.
+    pub fn room(&self) -> usize
+        ensures { result ≡ 32 - length self.now.obstacles.items }
+    {
+        self.obstacles.remaining_capacity()
+    }
+}
 
 impl Obstacle for Detour {
     ghost on = { λ d. d.arc };

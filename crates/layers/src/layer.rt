@@ -54,14 +54,12 @@ impl<G, O: Obstacle, const MOST: usize> Layer<G, ArrayVec<O, MOST>> {
             .find(|obstacle| obstacle.arc() == arc)
     }
 
-    // The guide below, as it was.
-    pub fn into_below(self) -> G
-        ensures { result ≡ self.below }
+    // The guide below, as it was, and what stood on its arcs, in order.
+    pub fn into_parts(self) -> (G, ArrayVec<O, MOST>)
+        ensures below { result.0 ≡ self.below }
+        ensures obstacles { result.1.items ≡ self.obstacles.items }
     {
-        let Layer {
-            below,
-            obstacles: _,
-        } = self;
-        below
+        let Layer { below, obstacles } = self;
+        (below, obstacles)
     }
 }

@@ -42,7 +42,8 @@ impl Labels<'_, '_> {
         requires some { 1 ≤ most }
         requires room { row.old.most ≡ most }
         requires new { row.old.entries.items ≡ [] }
-        ensures { Nearest most (Takes (N.roads roads.now) (cost_by costs.now) start) row.new.entries.items }
+        ensures entries { Nearest most (Takes (N.roads roads.now) (cost_by costs.now) start) row.new.entries.items }
+        ensures most { row.new.most ≡ most }
     {
         self.reach(start, 0);
         while let Some(key) = self.queue.take_least() {

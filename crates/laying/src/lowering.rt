@@ -24,6 +24,7 @@ impl<'t, 'q> Labels<'t, 'q> {
     }
 
     // The junction has this time, and waits by it.
+    #[inline(always)]
     pub(crate) fn reach(&mut self, junction: u32, time: u32)
         requires there { junction < length self.old.times.now }
         requires room { junction < capacity self.old.queue }
@@ -39,6 +40,7 @@ impl<'t, 'q> Labels<'t, 'q> {
     }
 
     // The same where the time is less than the junction's own.
+    #[inline(always)]
     pub(crate) fn lower(&mut self, junction: u32, time: u32)
         requires there { junction < length self.old.times.now }
         requires room { junction < capacity self.old.queue }

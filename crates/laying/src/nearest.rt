@@ -31,6 +31,7 @@ pub(crate) fn row_from<N: Network>(
     requires times { (N.roads roads.now).junctions ≤ length times.old }
     requires work { (N.roads roads.now).junctions ≤ length work.old }
     ensures variant { IsSome result ↔ (most ≤ 8) }
+    ensures most { IfSome result (λ r. r.most ≡ most) }
     ensures row { IfSome result (λ r. Nearest most (Takes (N.roads roads.now) (cost_by costs.now) junction) r.entries.items) }
 {
     let n = roads.junctions() as usize;
@@ -50,6 +51,7 @@ pub fn nearest_row<N: Network>(
     work: &mut [Slot<Key>],
 ) -> Option<Row>
     ensures variant { let m = N.roads roads.now in IsSome result ↔ ((1 ≤ most) × (most ≤ 8) × (junction < m.junctions) × (length (costs_in costs.now) ≡ m.arcs) × (m.junctions ≤ length work.old)) }
+    ensures most { IfSome result (λ r. r.most ≡ most) }
     ensures row { IfSome result (λ r. Nearest most (Takes (N.roads roads.now) (cost_by (costs_in costs.now)) junction) r.entries.items) }
 {
     let n = roads.junctions();

@@ -9,6 +9,7 @@ use network::Network;
 
 impl Labels<'_, '_> {
     // Each in turn, by rising number; the junction has this time.
+    #[inline(always)]
     pub(crate) fn try_arcs<N: Network>(
         &mut self,
         roads: &N,

@@ -8,3 +8,4 @@ pub mod Piles
 pub mod Refused
 pub mod Lists
 pub mod Sets
+pub mod Without

@@ -1,5 +1,5 @@
 -- What a refusal says: its number, and the places that it names. Assumes nothing.
-use Rattle.std.specs.Prelude.{ℕ, Option, Result}
+use Rattle.std.specs.Prelude.{ℕ, Some, None, Ok, Err, Option, Result}
 use Rattle.std.specs.Option.{option_map}
 use Rattle.std.specs.Result.{result_err}
 use Rattle.network.specs.declared.refusals.Places.{Places}
@@ -14,6 +14,11 @@ refusal n p = record { number = n; places = p }
 -- the refusal that a result holds, by what each fault means, or nothing where it is no fault
 abbrev pub refused : {X E : Type 0} → (E → Refusal) → Result X E → Option Refusal
 refused meaning r = option_map meaning (result_err r)
+
+-- what a call that keeps a value answers: the value where nothing refuses it, or the refusal, with the value handed back
+abbrev pub answered : {X : Type 0} → X → Option Refusal → Result X (Refusal × X)
+answered x None = Ok x
+answered x (Some refusal) = Err (refusal, x)
 
 -- the faults of the lists that every kind of roads has
 abbrev pub street_refusal : StreetFault → Refusal

@@ -49,6 +49,7 @@ impl<'a, T: Keyed> Queue<'a, T> {
     }
 
     // x waits under its handle, whatever waited there; past the capacity nothing changes.
+    #[inline(always)]
     pub fn set(&mut self, x: T)
         ensures capacity { capacity self.new ≡ capacity self.old }
         ensures below { T.handled x < capacity self.old → Updated (waiting self.old) (waiting self.new) (T.handled x) (Some x) }
@@ -76,6 +77,7 @@ impl<'a, T: Keyed> Queue<'a, T> {
     }
 
     // The least of what waits, which waits no more.
+    #[inline(always)]
     pub fn take_least(&mut self) -> Option<T>
         ensures capacity { capacity self.new ≡ capacity self.old }
         ensures least { result ≡ least_of T.before (waiting self.old) (capacity self.old) }

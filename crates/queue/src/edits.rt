@@ -20,6 +20,7 @@ impl<T: Keyed> Queue<'_, T> {
     }
 
     // x takes the place of the item at `at`, which has the same handle.
+    #[inline(always)]
     pub(crate) fn replace(&mut self, at: usize, x: T)
         requires inside { at < self.old.room.len }
         requires own { (d : Slot T) → waiting self.old (T.handled x) ≡ Some (item (held self.old.room) d at) }
@@ -31,6 +32,7 @@ impl<T: Keyed> Queue<'_, T> {
     }
 
     // x joins the others; nothing waited under its handle.
+    #[inline(always)]
     pub(crate) fn push(&mut self, x: T)
         requires fits { T.handled x < capacity self.old }
         requires short { T.handled x < 2 ^ 32 }
@@ -45,6 +47,7 @@ impl<T: Keyed> Queue<'_, T> {
     }
 
     // The item at `at` leaves.
+    #[inline(always)]
     pub(crate) fn remove_at(&mut self, at: usize)
         requires inside { at < self.old.room.len }
         ensures capacity { capacity self.new ≡ capacity self.old }

@@ -46,6 +46,7 @@ impl<T: Keyed> Room<'_, T> {
     }
 
     // The item at `from` trades places with its parent for as long as it is before it; where it then stands.
+    #[inline(always)]
     pub(crate) fn rise(&mut self, from: usize) -> usize
         requires placed { Placed T.handled (held self.old) self.old.len }
         requires inside { from < self.old.len }
@@ -86,6 +87,7 @@ impl<T: Keyed> Room<'_, T> {
     }
 
     // The item at `from` trades places with its least child for as long as that is before it.
+    #[inline(always)]
     pub(crate) fn sink(&mut self, from: usize)
         requires placed { Placed T.handled (held self.old) self.old.len }
         requires gap { (d : Slot T) → Gap T.before (item (held self.old) d) self.old.len from }
@@ -105,6 +107,7 @@ impl<T: Keyed> Room<'_, T> {
     }
 
     // One item may stand wrongly, at j: it rises or sinks.
+    #[inline(always)]
     pub(crate) fn repair(&mut self, j: usize)
         requires placed { Placed T.handled (held self.old) self.old.len }
         requires inside { j < self.old.len }

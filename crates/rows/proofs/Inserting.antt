@@ -8,7 +8,8 @@ use Rattle.std.proofs.lemmas.List.Quantifiers.{position-Some}
 use Rattle.std.proofs.lemmas.List.Sums.{fails_before_first}
 use Rattle.network.proofs.First.{clash}
 use Rattle.rows.specs.Index.{missing}
-use Rattle.rows.specs.Offering.{comes_before, without, put, offer}
+use Rattle.network.specs.Without.{without}
+use Rattle.rows.specs.Offering.{comes_before, site_of, put, offer}
 use Rattle.rows.specs.declared.entry.Entry.{Entry}
 
 -- where no element passes a test
@@ -21,14 +22,14 @@ fails_all p l d e k n =
     (cases_lt (position_or_len p l) (length l)))
 
 module _ (s : ℕ) where
-  without_on : (y : Entry) (l : List Entry) → eqb y.site s ≡ false → without s (y ∷ l) ≡ y ∷ without s l
+  without_on : (y : Entry) (l : List Entry) → eqb y.site s ≡ false → without site_of s (y ∷ l) ≡ y ∷ without site_of s l
   without_on y l e = rw (e, without)
 
-  without_none : (l : List Entry) → ((k : ℕ) → k < length l → eqb (get_or l k missing).site s ≡ false) → without s l ≡ l
+  without_none : (l : List Entry) → ((k : ℕ) → k < length l → eqb (get_or l k missing).site s ≡ false) → without site_of s l ≡ l
   without_none [] h = refl
   without_none (y ∷ l) h = without_on y l (h 0 (omega arith)) ∙ ap (λ r. y ∷ r) (without_none l (λ k n. h (suc k) (omega arith)))
 
-  without_at : (l : List Entry) (i : ℕ) → i < length l → ((k : ℕ) → k < i → eqb (get_or l k missing).site s ≡ false) → eqb (get_or l i missing).site s ≡ true → without s l ≡ remove l i
+  without_at : (l : List Entry) (i : ℕ) → i < length l → ((k : ℕ) → k < i → eqb (get_or l k missing).site s ≡ false) → eqb (get_or l i missing).site s ≡ true → without site_of s l ≡ remove l i
   without_at [] i n h e = absurd (omega arith)
   without_at (y ∷ l) zero n h e = rw (e, without)
   without_at (y ∷ l) (suc i) n h e = without_on y l (h 0 (omega arith)) ∙ ap (λ r. y ∷ r) (without_at l i (omega arith) (λ k m. h (suc k) (omega arith)) e)
@@ -61,7 +62,7 @@ module _ (l : List Entry) (i n s : ℕ) (inside : i < length l) where
   abbrev of_site : Entry → Bool
   of_site e = eqb e.site s
 
-  pub way_removed : (k : ℕ) → position of_site (drop i l) ≡ Some k → length l ≤ n → (x : Entry) → insert (remove l (i + k)) i x ≡ take n (take i l ++ x ∷ without s (drop i l))
+  pub way_removed : (k : ℕ) → position of_site (drop i l) ≡ Some k → length l ≤ n → (x : Entry) → insert (remove l (i + k)) i x ≡ take n (take i l ++ x ∷ without site_of s (drop i l))
   way_removed k e few x =
       let p = position-Some of_site (drop i l) k missing e in
       let w = without_at s (drop i l) k p.0 p.2 p.1 in
@@ -69,12 +70,12 @@ module _ (l : List Entry) (i n s : ℕ) (inside : i < length l) where
       let whole : length (take i l ++ x ∷ remove (drop i l) k) ≤ n = omega (arith, length-append (take i l) (x ∷ remove (drop i l) k), length-take-le i l (omega arith), length-drop i l) in
       insert_removed x l i k (i + k) inside refl ∙ sym (take_all n (take i l ++ x ∷ remove (drop i l) k) whole) ∙ ap (λ r. take n (take i l ++ x ∷ r)) (sym w)
 
-  pub way_popped : position of_site (drop i l) ≡ None → length l ≡ n → (x : Entry) → insert (take (length l - 1) l) i x ≡ take n (take i l ++ x ∷ without s (drop i l))
+  pub way_popped : position of_site (drop i l) ≡ None → length l ≡ n → (x : Entry) → insert (take (length l - 1) l) i x ≡ take n (take i l ++ x ∷ without site_of s (drop i l))
   way_popped e full x =
       let w = without_none s (drop i l) (fails_all of_site (drop i l) missing e) in
       insert_popped x l i (length l - 1) inside (omega arith) ∙ ap (λ k. take k (take i l ++ x ∷ drop i l)) (let z : suc (length l - 1) ≡ n = omega arith in z) ∙ ap (λ r. take n (take i l ++ x ∷ r)) (sym w)
 
-  pub way_free : position of_site (drop i l) ≡ None → length l < n → (x : Entry) → insert l i x ≡ take n (take i l ++ x ∷ without s (drop i l))
+  pub way_free : position of_site (drop i l) ≡ None → length l < n → (x : Entry) → insert l i x ≡ take n (take i l ++ x ∷ without site_of s (drop i l))
   way_free e few x =
       let w = without_none s (drop i l) (fails_all of_site (drop i l) missing e) in
       let whole : length (insert l i x) ≤ n = omega (arith, length-insert l i x (omega arith)) in
@@ -88,7 +89,7 @@ module _ (x : Entry) where
   put_on : (y : Entry) (l : List Entry) → stops y ≡ false → put x (y ∷ l) ≡ y ∷ put x l
   put_on y l e = let p = or_parts (comes_before x y) (eqb y.site x.site) e in rw (p.0, p.1, put)
 
-  put_before : (l : List Entry) (i : ℕ) → i < length l → ((k : ℕ) → k < i → stops (get_or l k missing) ≡ false) → comes_before x (get_or l i missing) ≡ true → put x l ≡ take i l ++ x ∷ without x.site (drop i l)
+  put_before : (l : List Entry) (i : ℕ) → i < length l → ((k : ℕ) → k < i → stops (get_or l k missing) ≡ false) → comes_before x (get_or l i missing) ≡ true → put x l ≡ take i l ++ x ∷ without site_of x.site (drop i l)
   put_before [] i n h e = absurd (omega arith)
   put_before (y ∷ l) zero n h e = rw (e, put)
   put_before (y ∷ l) (suc i) n h e = put_on y l (h 0 (omega arith)) ∙ ap (λ r. y ∷ r) (put_before l i (omega arith) (λ k m. h (suc k) (omega arith)) e)
@@ -103,7 +104,7 @@ module _ (x : Entry) where
   put_end (y ∷ l) h = put_on y l (h 0 (omega arith)) ∙ ap (λ r. y ∷ r) (put_end l (λ k n. h (suc k) (omega arith)))
 
   module _ (l : List Entry) (n : ℕ) where
-    pub offer_before : (i : ℕ) (d : Entry) → position stops l ≡ Some i → comes_before x (get_or l i d) ≡ true → take n (take i l ++ x ∷ without x.site (drop i l)) ≡ offer n l x
+    pub offer_before : (i : ℕ) (d : Entry) → position stops l ≡ Some i → comes_before x (get_or l i d) ≡ true → take n (take i l ++ x ∷ without site_of x.site (drop i l)) ≡ offer n l x
     unfolding offer
     offer_before i d e b =
         let p = position-Some stops l i missing e in

@@ -175,3 +175,15 @@ module _ (m : Roads) (f : ℕ → ℕ) (C : ℕ) (rows : ℕ → List Entry) (v 
 
   pub nearest_is_offered_row : (l : List Entry) → Nearest C (Offer m f rows v) l → l ≡ offered_row m f C rows v
   nearest_is_offered_row l n = one_serving l (offered_row m f C rows v) C (Offer m f rows v) (serving_from C (Offer m f rows v) l n) offered_row_serving
+
+-- where arcs take the same times, the same is offered
+module _ (m : Roads) (f g : ℕ → ℕ) (C : ℕ) (rows : ℕ → List Entry) (v : ℕ) where
+  abbrev one_more : (here : Bool) (d : ℕ) → List Entry → List Entry → List Entry
+  one_more here d l row = elim here [ true ↦ offer_all C d l row | false ↦ row ]
+
+  pub offers_alike : (n : ℕ) → ((a : ℕ) → a < n → f a ≡ g a) → offer_arcs m f C rows v n ≡ offer_arcs m g C rows v n
+  unfolding offer_arcs
+  offers_alike zero h = refl
+  offers_alike (suc n) h =
+      ap (λ d. one_more (eqb (m.tail n) v) d (rows (m.head n)) (offer_arcs m f C rows v n)) (h n (omega arith))
+      ∙ ap (λ row. one_more (eqb (m.tail n) v) (g n) (rows (m.head n)) row) (offers_alike n (λ a l. h a (omega arith)))

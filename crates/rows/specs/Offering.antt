@@ -1,6 +1,7 @@
 -- A row put together from offers, one after the other. Assumes nothing.
-use Rattle.std.specs.Prelude.{ℕ, zero, suc, ◌+◌, Bool, true, false, ◌&&◌, ◌||◌, List, [], ◌∷◌, take, fold, ◌==◌, nat_lt}
+use Rattle.std.specs.Prelude.{ℕ, zero, suc, ◌+◌, ◌^◌, Bool, true, false, ◌&&◌, ◌||◌, List, [], ◌∷◌, take, fold, ◌==◌, nat_lt}
 use Rattle.network.specs.Model.{Roads}
+use Rattle.network.specs.Without.{without}
 use Rattle.rows.specs.Nearest.{entry}
 use Rattle.rows.specs.declared.entry.Entry.{Entry}
 
@@ -8,15 +9,14 @@ use Rattle.rows.specs.declared.entry.Entry.{Entry}
 abbrev pub comes_before : Entry → Entry → Bool
 comes_before x y = nat_lt x.time y.time || (x.time == y.time && nat_lt x.site y.site)
 
--- the list without the first entry of the site s
-abbrev pub without : ℕ → List Entry → List Entry
-without s [] = []
-without s (y ∷ l) = elim (y.site == s) [ true ↦ l | false ↦ y ∷ without s l ]
+-- the site that an entry is of
+abbrev pub site_of : Entry → ℕ
+site_of x = x.site
 
 -- the list with x in its place, and no other entry of its site; as it was where one that does not come after x is there
 abbrev pub put : Entry → List Entry → List Entry
 put x [] = x ∷ []
-put x (y ∷ l) = elim (comes_before x y) [ true ↦ x ∷ without x.site (y ∷ l) | false ↦ elim (y.site == x.site) [ true ↦ y ∷ l | false ↦ y ∷ put x l ] ]
+put x (y ∷ l) = elim (comes_before x y) [ true ↦ x ∷ without site_of x.site (y ∷ l) | false ↦ elim (y.site == x.site) [ true ↦ y ∷ l | false ↦ y ∷ put x l ] ]
 
 -- a row of at most C entries after one more offer
 unfoldable pub offer : (C : ℕ) → List Entry → Entry → List Entry
@@ -29,6 +29,15 @@ later d x = entry x.site (d + x.time)
 -- the row after the offers of a list, each later by d
 abbrev pub offer_all : (C d : ℕ) → List Entry → List Entry → List Entry
 offer_all C d l row = fold (λ r x. offer C r (later d x)) row l
+
+-- whether an entry later by d has a time of 32 bits
+abbrev pub fits : ℕ → Entry → Bool
+fits d x = nat_lt (d + x.time) (2 ^ 32)
+
+-- the entries of a list before the first that does not fit, later by d
+abbrev pub fitting : ℕ → List Entry → List Entry
+fitting d [] = []
+fitting d (x ∷ l) = elim (fits d x) [ true ↦ x ∷ fitting d l | false ↦ [] ]
 
 -- the row of the sites below n that stand at v
 unfoldable pub offer_sites : Roads → (C v n : ℕ) → List Entry

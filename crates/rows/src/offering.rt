@@ -1,6 +1,7 @@
 // Offering entries to a row, which keeps the nearest.
 ghost use Rattle.std.specs.Prelude.{◌≡◌, ◌≤◌, ◌<◌, ◌↔◌, ◌==◌, ◌||◌, [], ◌∷◌, ◌++◌, IsSome, IfSome, drop, insert, length, position, take};
-ghost use Rattle.rows.specs.Offering.{comes_before, offer, without};
+ghost use Rattle.network.specs.Without.{without};
+ghost use Rattle.rows.specs.Offering.{comes_before, offer, site_of};
 ghost use Rattle.rows.specs.declared.entry.Entry.{Entry};
 
 use crate::entry::Entry;
@@ -53,7 +54,7 @@ impl Row {
     // The site's entry goes, or else the last where the row is full, so that one of the site can come before them.
     fn make_way(&mut self, at: usize, site: u32)
         requires { at < length self.old.entries.items }
-        ensures way { (x : Entry) → insert self.new.entries.items at x ≡ take self.old.most (take at self.old.entries.items ++ x ∷ without site (drop at self.old.entries.items)) }
+        ensures way { (x : Entry) → insert self.new.entries.items at x ≡ take self.old.most (take at self.old.entries.items ++ x ∷ without site_of site (drop at self.old.entries.items)) }
         ensures within { at ≤ length self.new.entries.items }
         ensures room { length self.new.entries.items < self.old.most }
         ensures most { self.new.most ≡ self.old.most }

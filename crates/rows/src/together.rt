@@ -1,7 +1,8 @@
 // A row of what is offered at a junction: the sites that stand there, and what the rows at the heads of its arcs list.
-ghost use Rattle.std.specs.Prelude.{◌≡◌, ℕ, ◌+◌, ◌^◌, ◌<◌, ◌≤◌, ◌↔◌, IsSome, IfSome, IfNone, OnSome, length, min, slice_index};
+ghost use Rattle.std.specs.Prelude.{◌≡◌, ◌≤◌, ◌↔◌, IsSome, IfSome, is_some, length, min};
+ghost use Rattle.std.specs.List.{list_all};
 ghost use Rattle.rows.specs.Index.{read_row};
-ghost use Rattle.rows.specs.Offering.{offer_all, offer_sites};
+ghost use Rattle.rows.specs.Offering.{fits, fitting, offer_all, offer_sites};
 
 use crate::entry::Entry;
 use crate::padded::NO_SITE;
@@ -24,10 +25,11 @@ impl Row {
         Some(row)
     }
 
-    // Offers the entries of a row of the index, each later by some time; nothing where a time would not fit.
+    // Offers the entries of a row of the index, each later by some time, up to the first whose time would not fit; nothing
+    // where there is one.
     pub fn offer_later(&mut self, sites: &[u32], times: &[u32], by: u32) -> Option<()>
-        ensures entries { OnSome result (self.new.entries.items ≡ offer_all self.old.most by (read_row sites.now times.now (min (length sites.now) (length times.now)) 0) self.old.entries.items) }
-        ensures no_room { IfNone result ((k : ℕ) × (k < length times.now) × (2 ^ 32 ≤ by + slice_index times.now k)) }
+        ensures variant { is_some result ≡ list_all (fits by) (read_row sites.now times.now (min (length sites.now) (length times.now)) 0) }
+        ensures entries { self.new.entries.items ≡ offer_all self.old.most by (fitting by (read_row sites.now times.now (min (length sites.now) (length times.now)) 0)) self.old.entries.items }
         ensures most { self.new.most ≡ self.old.most }
     {
         for (site, time) in sites.iter().zip(times) {

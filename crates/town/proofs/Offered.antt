@@ -11,23 +11,12 @@ use Rattle.rows.specs.Nearest.{entry}
 use Rattle.rows.specs.Offering.{offer, offer_all, offer_sites, offer_arcs, offered_row}
 use Rattle.rows.specs.declared.entry.Entry.{Entry}
 use Rattle.rows.proofs.Differing.{index_if_none, difference_same}
+use Rattle.rows.proofs.Offers.{offers_alike}
 use Rattle.rows.proofs.Reading.{index_from_offers, least_index_once}
 use Rattle.town.specs.FourJunctions.{town}
 use Rattle.town.specs.Indexed.{Index, firsts, IsRight, entry_of, one_kept, two_kept, WorkedIndex}
 use Rattle.town.proofs.LeastTimes.{day, can_enter, known, least_known}
 use Rattle.town.proofs.Sound.{clock_sound}
-
--- where arcs take the same times, the same is offered
-module _ (m : Roads) (f g : ℕ → ℕ) (C : ℕ) (rows : ℕ → List Entry) (v : ℕ) where
-  abbrev one_more : (here : Bool) (d : ℕ) → List Entry → List Entry → List Entry
-  one_more here d l row = elim here [ true ↦ offer_all C d l row | false ↦ row ]
-
-  offers_alike : (n : ℕ) → ((a : ℕ) → a < n → f a ≡ g a) → offer_arcs m f C rows v n ≡ offer_arcs m g C rows v n
-  unfolding offer_arcs
-  offers_alike zero h = refl
-  offers_alike (suc n) h =
-      ap (λ d. one_more (eqb (m.tail n) v) d (rows (m.head n)) (offer_arcs m f C rows v n)) (h n (omega arith))
-      ∙ ap (λ row. one_more (eqb (m.tail n) v) (g n) (rows (m.head n)) row) (offers_alike n (λ a l. h a (omega arith)))
 
 module _ (x : Index) where
   -- what the index itself offers, where arcs take the times f

@@ -12,7 +12,7 @@ pub returns-in_err-start : goal.returns-in_err-start
 returns-in_err-start c =
     let start : c.position.result ≡ position solid c.args.bytes.now =
     position_from_yields_List solid _ _ _ c.position.ensures.ran (YieldsList-from_slice c.args.bytes.now cc) (λ x b q k. search (rules, tests)) in
-    rw c.from_residual.ensures (record { value = no_word c.args.bytes.now (sym start ∙ c.in_err-start.was); shorter = tt })
+    rw c.from_residual.ensures (record { value = no_word c.args.bytes.now (sym start ∙ c.in_err-start.was); rest = tt; shorter = tt })
 
 pub returns : goal.returns
 returns c =
@@ -22,4 +22,4 @@ returns c =
     let end : c.count-end.result ≡ prefix_len solid from =
     count_from_yields_List c.take_while.result _ c.count-end.ensures.ran (YieldsList-from_take_while _ solid (YieldsList-from_slice from (ap iter_rest c.take_while.ensures.source ∙ c.iter-2.ensures.rest)) c.take_while.ensures.closure c.take_while.ensures.done (λ x b q k. search (rules, tests))) ∙ length-prefix_len solid from in
     let cut = word_cut _ _ _ _ _ _ (sym start ∙ c.in_ok-start.was) c.split_at.ensures.back end c.split_at-2.ensures.front c.split_at-2.ensures.back in
-    record { value = cut.0; shorter = cut.1 }
+    record { value = cut.0; rest = cut.1; shorter = cut.2 }

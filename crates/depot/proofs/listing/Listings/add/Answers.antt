@@ -26,11 +26,11 @@ room c =
 
 pub returns : goal.returns
 returns c =
-    line_in _ _ _ _ _ _ c.in-Some.ensures (has (goal.at.returns c).In_ok-part) c.in_ok-numbers.ensures (room c)
+    line_in _ _ _ _ _ _ c.in-Some.ensures.value (has (goal.at.returns c).In_ok-part) c.in_ok-numbers.ensures (room c)
     ∙ ap Ok (sym (ap items c.in_ok-push.ensures.items ∙ map_push item _ _))
 
 pub returns-in-Some-second_number : goal.returns-in-Some-second_number
 returns-in-Some-second_number c =
     let over : grown (items c.args.self.now.lines.items) (words (code c.args.line.now)) ≡ Err (c.in-Some-second_number.word.now, SecondNumber) =
-    line_over _ _ _ _ _ _ c.in-Some.ensures (has (goal.at.returns-in-Some-second_number c).In_ok-part) c.in_ok-numbers.ensures _ c.if-is_single.ensures c.in-Some-second_number.ensures in
+    line_over _ _ _ _ _ _ c.in-Some.ensures.value (has (goal.at.returns-in-Some-second_number c).In_ok-part) c.in_ok-numbers.ensures _ c.if-is_single.ensures c.in-Some-second_number.ensures in
     search rules

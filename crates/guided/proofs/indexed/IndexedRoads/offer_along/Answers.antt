@@ -1,5 +1,8 @@
-use Rattle.std.proofs.Common.{◌∙◌}
-use Rattle.guided.proofs.Along.{on_some, if_none, head_says, offered_along, fits_along}
+use Rattle.std.proofs.Common.{length, min, ◌∙◌}
+use Rattle.std.specs.List.{list_all}
+use Rattle.rows.specs.Index.{read_row}
+use Rattle.rows.specs.Offering.{fits}
+use Rattle.guided.proofs.Along.{some_if, none_if, head_says, offered_along, fits_along}
 use Rattle.guided.proofs.Parts.{row_there}
 use Rattle.guided.proofs.indexed.IndexedRoads.offer_along.Goals as goal
 
@@ -13,10 +16,12 @@ pub returns-clause-entries : goal.returns-clause-entries
 returns-clause-entries c =
     let r = c.args.self.now in
     let head = head_says r c.args.segment c.args.arc c.requires.segment c.requires.arc c.in_ok-head.head c.in_ok-head.ensures in
-    on_some c.offer_later.result (λ e. e ∙ offered_along r c.args.segment c.args.arc c.requires.segment c.requires.arc c.in_ok-head.head head.0 c.in_ok-by.by c.in_ok-by.ensures c.in_ok-sites.sites.now c.in_ok-sites.times.now c.in_ok-sites.ensures c.args.row.now.most c.args.row.now.entries.items) c.offer_later.ensures.entries
+    some_if c.offer_later.result (list_all (fits c.in_ok-by.by) (read_row c.in_ok-sites.sites.now c.in_ok-sites.times.now (min (length c.in_ok-sites.sites.now) (length c.in_ok-sites.times.now)) 0)) c.offer_later.ensures.variant
+    (λ e. c.offer_later.ensures.entries ∙ offered_along r c.args.segment c.args.arc c.requires.segment c.requires.arc c.in_ok-head.head head.0 c.in_ok-by.by c.in_ok-by.ensures c.in_ok-sites.sites.now c.in_ok-sites.times.now c.in_ok-sites.ensures c.args.row.now.most c.args.row.now.entries.items e)
 
 pub returns-clause-no_room : goal.returns-clause-no_room
 returns-clause-no_room c =
     let r = c.args.self.now in
     let head = head_says r c.args.segment c.args.arc c.requires.segment c.requires.arc c.in_ok-head.head c.in_ok-head.ensures in
-    if_none c.offer_later.result (fits_along r c.args.segment c.args.arc c.requires.segment c.requires.arc c.in_ok-head.head head.0 c.in_ok-by.by c.in_ok-by.ensures c.in_ok-sites.sites.now c.in_ok-sites.times.now c.in_ok-sites.ensures) c.offer_later.ensures.no_room
+    none_if c.offer_later.result (list_all (fits c.in_ok-by.by) (read_row c.in_ok-sites.sites.now c.in_ok-sites.times.now (min (length c.in_ok-sites.sites.now) (length c.in_ok-sites.times.now)) 0)) c.offer_later.ensures.variant
+    (fits_along r c.args.segment c.args.arc c.requires.segment c.requires.arc c.in_ok-head.head head.0 c.in_ok-by.by c.in_ok-by.ensures c.in_ok-sites.sites.now c.in_ok-sites.times.now c.in_ok-sites.ensures)

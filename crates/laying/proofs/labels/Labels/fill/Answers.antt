@@ -29,8 +29,8 @@ loop-key-init g c =
           (record { times = ap length c.reach.ensures.times ∙ length-set _ _ _ ∙ size.times; queue = c.reach.ensures.capacity ∙ size.queue }),
     )
 
-pub returns-then-is_full_before : goal.returns-then-is_full_before
-returns-then-is_full_before g c =
+pub returns-then-is_full_before-clause-entries : goal.returns-then-is_full_before-clause-entries
+returns-then-is_full_before-clause-entries g c =
     let m = g.N.Network.roads c.args.roads.now in
     let row = c.loop-key.row.entries.items in
     let k = c.in-Some.key in
@@ -115,7 +115,7 @@ loop-key-preserved g c =
       )
     ]
 
-pub returns : goal.returns
-returns g c =
+pub returns-clause-entries : goal.returns-clause-entries
+returns-clause-entries g c =
     let m = g.N.Network.roads c.args.roads.now in
     ends_empty m (cost_by c.args.costs.now) c.args.most c.args.start c.loop-key.self c.loop-key.row.entries.items c.loop-key.invariant.1 (sym c.in_default.ensures.least)

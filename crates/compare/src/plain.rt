@@ -1,0 +1,43 @@
+// The rules once more, over plain lists and numbers: every question is answered by looking through all that there is. Proved
+// is only that no index is out of range and that no sum wraps.
+mod arrivals;
+mod asking;
+mod bays;
+mod depots;
+mod desks;
+mod examining;
+mod following;
+mod guiding;
+mod index;
+mod laid;
+mod lists;
+mod loading;
+mod nearest;
+mod readings;
+mod refused;
+mod roads;
+mod segments;
+mod strata;
+mod sums;
+mod text;
+mod times;
+mod words;
+
+pub(crate) use asking::{Asked, Listed, Question, Room, ask_plainly, asking_refusal};
+pub(crate) use bays::{Bays, making_refusal};
+pub(crate) use depots::{Depot, Part};
+pub(crate) use desks::{Kept, Papers};
+pub(crate) use examining::{clock_refusal, length_refusal};
+pub(crate) use following::{Drive, Driven, drive_plainly};
+pub(crate) use index::{Index, NO_SITE};
+pub(crate) use laid::{IndexRoom, index_of, laying_refusal};
+pub(crate) use lists::{at, count, has, put};
+pub(crate) use loading::{LoadRefusal, early_refusal, first_difference};
+pub(crate) use nearest::{are_soonest, least_readings};
+pub(crate) use readings::{Far, Kind};
+pub(crate) use refused::Refused;
+pub(crate) use roads::Roads;
+pub(crate) use segments::{cuts_the_day, segment_end, segment_of};
+pub(crate) use strata::{Standing, Strata, adding_refusal, lifting_refusal, put_last, take_out};
+pub(crate) use text::{NAMES, Said, Unread, Wrong, read_plainly};
+pub(crate) use times::travel_times;
