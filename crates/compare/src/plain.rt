@@ -26,7 +26,7 @@ mod words;
 pub(crate) use asking::{Asked, Listed, Question, Room, ask_plainly, asking_refusal};
 pub(crate) use bays::{Bays, making_refusal};
 pub(crate) use depots::{Depot, Part};
-pub(crate) use desks::{Kept, Papers};
+pub(crate) use desks::{Kept, Ledger};
 pub(crate) use examining::{clock_refusal, length_refusal};
 pub(crate) use following::{Drive, Driven, drive_plainly};
 pub(crate) use index::{Index, NO_SITE};

@@ -1,6 +1,6 @@
-// Desks beside plain papers.
+// Desks beside plain ledgers.
 use crate::beside::{any_bays, says_the_same, told_fault};
-use crate::plain::{Bays, Papers, Refused, making_refusal};
+use crate::plain::{Bays, Ledger, Refused, making_refusal};
 use crate::seeded::{Bench, Sort, Trouble, any_below};
 use board::HoldFault;
 use desk::{Desk, DeskFault};
@@ -19,48 +19,48 @@ fn refused(fault: HoldFault) -> Refused {
     told_fault(Some(fault)).unwrap_or(Refused::call(0))
 }
 
-fn compare_holding(bench: &mut Bench, desk: &mut Desk, papers: &mut Papers) -> Result<(), Trouble> {
-    let site = any_below(&mut bench.random, papers.bays.sites());
+fn compare_holding(bench: &mut Bench, desk: &mut Desk, ledger: &mut Ledger) -> Result<(), Trouble> {
+    let site = any_below(&mut bench.random, ledger.bays.sites());
     let held = told(desk.hold(site))?;
-    let expected = papers.hold(site)?;
+    let expected = ledger.hold(site)?;
     bench.same_refusal(Sort::DeskHoldings, expected.err(), held.err())?;
     bench.same(Sort::DeskNames, expected.ok() == held.ok())
 }
 
-fn compare_back(bench: &mut Bench, desk: &mut Desk, papers: &mut Papers) -> Result<(), Trouble> {
-    let name = any_below(&mut bench.random, papers.next);
+fn compare_back(bench: &mut Bench, desk: &mut Desk, ledger: &mut Ledger) -> Result<(), Trouble> {
+    let name = any_below(&mut bench.random, ledger.next);
     let site = desk.back(name);
-    bench.same(Sort::DeskBacks, site == papers.back(name))
+    bench.same(Sort::DeskBacks, site == ledger.back(name))
 }
 
-fn compare_calls(bench: &mut Bench, desk: &mut Desk, papers: &mut Papers) -> Result<(), Trouble> {
+fn compare_calls(bench: &mut Bench, desk: &mut Desk, ledger: &mut Ledger) -> Result<(), Trouble> {
     for _ in 0..bench.random.one_of(&[0, 3, 12, 60]) {
         if bench.random.below(5) < 3 {
-            compare_holding(bench, desk, papers)?;
+            compare_holding(bench, desk, ledger)?;
         } else {
-            compare_back(bench, desk, papers)?;
+            compare_back(bench, desk, ledger)?;
         }
-        let same = says_the_same(desk.board(), &papers.bays);
+        let same = says_the_same(desk.board(), &ledger.bays);
         bench.same(Sort::DeskCounts, same)?;
     }
     Ok(())
 }
 
 // The desk is closed whatever was found.
-fn compare_open(bench: &mut Bench, desk: Desk, papers: &mut Papers) -> Result<(), Trouble> {
+fn compare_open(bench: &mut Bench, desk: Desk, ledger: &mut Ledger) -> Result<(), Trouble> {
     let mut desk = desk;
-    let called = compare_calls(bench, &mut desk, papers);
+    let called = compare_calls(bench, &mut desk, ledger);
     let board = desk.close();
     called?;
-    papers.close();
-    bench.same(Sort::Closed, says_the_same(&board, &papers.bays))
+    ledger.close();
+    bench.same(Sort::Closed, says_the_same(&board, &ledger.bays))
 }
 
 pub(crate) fn compare_desk(bench: &mut Bench) -> Result<(), Trouble> {
     let sites = bench.random.one_of(&[0, 1, 2, 5, 20, 64]);
     let counts = any_bays(bench, sites)?;
     let number = bench.random.word();
-    let mut papers = Papers {
+    let mut ledger = Ledger {
         bays: Bays::new(bench.heap, number, &counts)?,
         kept: Vec::new(bench.heap),
         next: 0,
@@ -68,7 +68,7 @@ pub(crate) fn compare_desk(bench: &mut Bench) -> Result<(), Trouble> {
     let expected = making_refusal(&counts);
     match Desk::open(bench.heap, number, &counts) {
         Ok(desk) => {
-            let opened = compare_open(bench, desk, &mut papers);
+            let opened = compare_open(bench, desk, &mut ledger);
             bench.same_refusal(Sort::Desks, expected, None)?;
             opened
         }

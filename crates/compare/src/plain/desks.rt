@@ -11,13 +11,13 @@ pub(crate) struct Kept {
 }
 
 #[derive(Drop)]
-pub(crate) struct Papers {
+pub(crate) struct Ledger {
     pub(crate) bays: Bays,
     pub(crate) kept: Vec<Kept>,
     pub(crate) next: u32,
 }
 
-impl Papers {
+impl Ledger {
     // The number that the hold is kept under, or what is refused.
     pub(crate) fn hold(&mut self, site: u32) -> Result<Result<u32, Refused>, AllocError> {
         if let Some(refused) = self.bays.hold_refusal(site) {
