@@ -30,7 +30,7 @@ pub(crate) use desks::{Kept, Ledger};
 pub(crate) use examining::{clock_refusal, length_refusal};
 pub(crate) use following::{Drive, Driven, drive_plainly};
 pub(crate) use index::{Index, NO_SITE};
-pub(crate) use laid::{IndexRoom, index_of, laying_refusal};
+pub(crate) use laid::{IndexRoom, PlainlyLaid, index_of, lay_plainly, laying_refusal};
 pub(crate) use lists::{at, count, has, put};
 pub(crate) use loading::{LoadRefusal, early_refusal, first_difference};
 pub(crate) use nearest::{are_soonest, least_readings};

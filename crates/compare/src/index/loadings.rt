@@ -1,6 +1,7 @@
 // Loadings of an index, right ones and changed ones.
 use crate::beside::{is_clock, told_refusal};
 use crate::index::changes::{change_entries, change_shape};
+use crate::index::laid_rows::is_wide;
 use crate::index::lists::{any_work, copy_of, index_tables};
 use crate::plain::{
     Depot, Index, LoadRefusal, Refused, early_refusal, first_difference, index_of, travel_times,
@@ -29,15 +30,25 @@ fn refused_of(refusal: Option<LoadRefusal>) -> Option<Refused> {
     Some(refusal?.refused)
 }
 
+// Whether an entry of a wide index is named, in a segment after the first.
+fn is_late(depot: &Depot, refusal: LoadRefusal) -> bool {
+    let [segment, _, _] = refusal.refused.places;
+    refusal.refused.number == 11 && segment != Some(0) && is_wide(depot)
+}
+
 // By number and places; and where both are refused, whether that is marked as the tables' fault.
 fn compare_refusal(
     bench: &mut Bench,
+    depot: &Depot,
     expected: Option<LoadRefusal>,
     answer: Option<LoadRefusal>,
 ) -> Result<(), Trouble> {
     bench.same_refusal(Sort::Loadings, refused_of(expected), refused_of(answer))?;
-    if expected.is_none() {
+    let Some(refusal) = expected else {
         return Ok(());
+    };
+    if is_late(depot, refusal) {
+        bench.same(Sort::LateFaults, expected == answer)?;
     }
     bench.same(Sort::Marked, expected == answer)
 }
@@ -53,11 +64,11 @@ pub(crate) fn compare_loading(
     let mut slots = any_work(bench, work)?;
     match load(index_tables(depot, index)?, slots.as_mut_slice()) {
         Ok(roads) => {
-            compare_refusal(bench, expected, None)?;
+            compare_refusal(bench, depot, expected, None)?;
             Ok(Some(roads))
         }
         Err(Returned { fault, value }) => {
-            compare_refusal(bench, expected, Some(told(fault)))?;
+            compare_refusal(bench, depot, expected, Some(told(fault)))?;
             bench.same(Sort::LoadedBack, is_same(&value, depot, index))?;
             Ok(None)
         }

@@ -1,7 +1,7 @@
 // One round: a depot and a day of its own, and all that is compared on them.
 use crate::beside::clock_tables;
 use crate::index::guiding::compare_guided;
-use crate::index::layings::{compare_laying, compare_laying_anew};
+use crate::index::layings::{any_most, compare_laying, compare_laying_anew};
 use crate::index::least_times::{compare_day, compare_times};
 use crate::index::loadings::{
     compare_back, compare_changed_entries, compare_changed_shape, compare_damaged, compare_loading,
@@ -47,7 +47,7 @@ fn compare_loadings(
     firsts: &[u32],
     times: &[Vec<u32>],
 ) -> Result<(), Trouble> {
-    let most = bench.random.between(1, 8);
+    let most = any_most(&mut bench.random, depot);
     let right = index_of(bench.heap, depot, firsts, times, most)?;
     compare_right(bench, depot, &right)?;
     for _ in 0..6 {
@@ -72,7 +72,11 @@ fn compare_right(bench: &mut Bench, depot: &Depot, right: &Index) -> Result<(), 
 }
 
 pub(crate) fn compare_round(bench: &mut Bench) -> Result<(), Trouble> {
-    let shape = Shape::small(&mut bench.random);
+    let shape = if bench.random.once_in(2) {
+        Shape::small(&mut bench.random)
+    } else {
+        Shape::alike(&mut bench.random)
+    };
     let mut depot = make_depot(bench.heap, &mut bench.random, shape)?;
     let firsts = any_day(bench.heap, &mut bench.random, &depot)?;
     let roads = open(bench, &depot)?;

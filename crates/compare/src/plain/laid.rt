@@ -78,8 +78,27 @@ fn next_near(sums: &[Vec<Option<u32>>], junction: u32, after: Option<Near>) -> O
     least
 }
 
-// The row of a junction is put behind those that are there.
-fn add_row(index: &mut Index, sums: &[Vec<Option<u32>>], junction: u32) -> Result<(), AllocError> {
+// An index, and of each of its rows whether it leaves out a site that is as near as its last.
+#[derive(Drop)]
+pub(crate) struct PlainlyLaid {
+    pub(crate) index: Index,
+    pub(crate) cut: Vec<bool>,
+}
+
+// Whether what comes next is as near as the last that was taken.
+fn is_cut(last: Option<Near>, next: Option<Near>) -> bool {
+    match (last, next) {
+        (Some(last), Some(next)) => last.time == next.time,
+        _ => false,
+    }
+}
+
+// The row of a junction is put behind those that are there; whether it is cut.
+fn add_row(
+    index: &mut Index,
+    sums: &[Vec<Option<u32>>],
+    junction: u32,
+) -> Result<bool, AllocError> {
     let mut taken = None;
     let mut ended = false;
     for _ in 0..index.most {
@@ -96,7 +115,8 @@ fn add_row(index: &mut Index, sums: &[Vec<Option<u32>>], junction: u32) -> Resul
         index.sites.push(near.site)?;
         index.times.push(near.time)?;
     }
-    Ok(())
+    let cut = !ended && is_cut(taken, next_near(sums, junction, taken));
+    Ok(cut)
 }
 
 // Of each site, the sums from each junction, by the arcs' travel times.
@@ -114,6 +134,30 @@ fn sums_by(
 }
 
 // The index of a depot whose tables are not refused, by the arcs' least travel times in each segment.
+pub(crate) fn lay_plainly(
+    heap: Global,
+    depot: &Depot,
+    segments: &[u32],
+    times: &[Vec<u32>],
+    most: u32,
+) -> Result<PlainlyLaid, AllocError> {
+    let mut laid = PlainlyLaid {
+        index: Index::empty(heap),
+        cut: Vec::new(heap),
+    };
+    laid.index.most = most;
+    laid.index.segments.extend_from_slice(segments)?;
+    for in_segment in times {
+        let sums = sums_by(heap, depot, in_segment)?;
+        for junction in 0..depot.junctions() {
+            let cut = add_row(&mut laid.index, &sums, junction)?;
+            laid.cut.push(cut)?;
+        }
+    }
+    Ok(laid)
+}
+
+// The same without what it leaves out.
 pub(crate) fn index_of(
     heap: Global,
     depot: &Depot,
@@ -121,14 +165,6 @@ pub(crate) fn index_of(
     times: &[Vec<u32>],
     most: u32,
 ) -> Result<Index, AllocError> {
-    let mut index = Index::empty(heap);
-    index.most = most;
-    index.segments.extend_from_slice(segments)?;
-    for in_segment in times {
-        let sums = sums_by(heap, depot, in_segment)?;
-        for junction in 0..depot.junctions() {
-            add_row(&mut index, &sums, junction)?;
-        }
-    }
-    Ok(index)
+    let laid = lay_plainly(heap, depot, segments, times, most)?;
+    Ok(laid.index)
 }

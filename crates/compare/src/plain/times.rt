@@ -4,6 +4,7 @@ use crate::plain::depots::Depot;
 use crate::plain::lists::{at, count};
 use crate::plain::segments::segment_end;
 use std::alloc::{AllocError, Global};
+use std::ops::Range;
 
 // The least of arrival minus departure over the seconds from first to before end that lie between two points, and of `least`.
 fn least_between(depot: &Depot, after: u32, first: u32, end: u32, least: u32) -> u32 {
@@ -35,7 +36,19 @@ fn least_travel_time(depot: &Depot, firsts: &[u32], segment: u32, arc: u32) -> u
     least
 }
 
-// Of each arc, in a segment.
+fn points_of(depot: &Depot, arc: u32) -> Range<usize> {
+    let first = at(&depot.points, arc) as usize;
+    let end = at(&depot.points, arc.saturating_add(1)) as usize;
+    first..end
+}
+
+// Whether two arcs have the same points, and so take equally long.
+fn are_alike(depot: &Depot, one: u32, other: u32) -> bool {
+    depot.departures.get(points_of(depot, one)) == depot.departures.get(points_of(depot, other))
+        && depot.arrivals.get(points_of(depot, one)) == depot.arrivals.get(points_of(depot, other))
+}
+
+// Of each arc, in a segment; the seconds are looked at once for all arcs with the same points.
 fn times_in(
     heap: Global,
     depot: &Depot,
@@ -44,7 +57,12 @@ fn times_in(
 ) -> Result<Vec<u32>, AllocError> {
     let mut times = Vec::new(heap);
     for arc in 0..depot.arcs() {
-        times.push(least_travel_time(depot, firsts, segment, arc))?;
+        let alike = (0..arc).find(|earlier| are_alike(depot, *earlier, arc));
+        let time = match alike {
+            Some(earlier) => at(&times, earlier),
+            None => least_travel_time(depot, firsts, segment, arc),
+        };
+        times.push(time)?;
     }
     Ok(times)
 }

@@ -1,94 +1,12 @@
 // Making depots at random, with good tables.
-use crate::plain::{Depot, count};
+use crate::plain::{Depot, at, count};
 use crate::seeded::random::Random;
+use crate::seeded::shapes::Shape;
 use std::alloc::{AllocError, Global};
 
 const MIDNIGHT: u32 = 86_400;
 
 const LAST_ARRIVAL: u32 = 172_800;
-
-// How many there are of each, at most; how long an arc takes on clock roads, and how far it is on length roads; at how many
-// junctions the sites stand; whether an arc leads from each junction to the next; whether all arcs are equally long.
-#[derive(Clone, Copy)]
-pub(crate) struct Shape {
-    pub(crate) junctions: u32,
-    pub(crate) leaving: u32,
-    pub(crate) points: u32,
-    pub(crate) seconds: u32,
-    pub(crate) metres: u32,
-    pub(crate) sites: u32,
-    pub(crate) sited: u32,
-    pub(crate) line: bool,
-    pub(crate) level: bool,
-}
-
-impl Shape {
-    // Mostly small; now and then one junction alone, many points, many sites, all sites at few junctions, or most arcs along
-    // a line.
-    pub(crate) fn random(random: &mut Random) -> Shape {
-        let junctions = match random.below(12) {
-            0 => 1,
-            1 => 2,
-            2 => random.between(20, 60),
-            3 if random.once_in(4) => random.between(100, 400),
-            _ => random.between(3, 12),
-        };
-        Shape {
-            junctions,
-            leaving: random.between(1, 5),
-            points: if random.once_in(12) {
-                random.between(20, 90)
-            } else {
-                random.between(2, 6)
-            },
-            seconds: random.one_of(&[1, 3, 20, 600, 5_000, 40_000, 100_000]),
-            metres: random.one_of(&[1, 3, 50, 5_000, 1_000_000]),
-            sites: random.one_of(&[0, 1, 2, 4, 8, 20, 64]),
-            sited: if random.once_in(4) {
-                random.between(1, 2)
-            } else {
-                junctions
-            },
-            line: random.once_in(4),
-            level: random.once_in(6),
-        }
-    }
-
-    // A few junctions and arcs, since every second of the day is looked at for each arc.
-    pub(crate) fn small(random: &mut Random) -> Shape {
-        let junctions = random.one_of(&[1, 2, 3, 4, 5, 6, 8, 10]);
-        Shape {
-            junctions,
-            leaving: random.between(1, 3),
-            points: random.one_of(&[2, 3, 4, 8]),
-            seconds: random.one_of(&[1, 3, 20, 600, 5_000, 40_000]),
-            metres: 1,
-            sites: random.one_of(&[0, 1, 2, 3, 5, 8, 9, 12, 64]),
-            sited: if random.once_in(3) {
-                random.between(1, 2)
-            } else {
-                junctions
-            },
-            line: random.once_in(2),
-            level: random.once_in(5),
-        }
-    }
-
-    // As many junctions as there may be.
-    pub(crate) fn largest(random: &mut Random) -> Shape {
-        Shape {
-            junctions: 4_096,
-            leaving: 4,
-            points: 3,
-            seconds: random.one_of(&[20, 600, 5_000]),
-            metres: random.one_of(&[3, 5_000, 1_000_000]),
-            sites: 64,
-            sited: 4_096,
-            line: random.once_in(2),
-            level: random.once_in(2),
-        }
-    }
-}
 
 // A good depot of the shape.
 pub(crate) fn make_depot(
@@ -103,13 +21,7 @@ pub(crate) fn make_depot(
     for tail in 0..shape.junctions {
         let leaving = random.between(u32::from(shape.line), shape.leaving);
         for arc in 0..leaving {
-            let onward = shape.line && (arc == 0 || random.once_in(2));
-            let next = tail.saturating_add(1).min(last);
-            let head = if onward {
-                next
-            } else {
-                random.between(0, last)
-            };
+            let head = any_head(random, shape, &depot, tail, arc == 0);
             add_arc(&mut depot, random, shape, head)?;
         }
         let arcs = depot.arcs();
@@ -117,9 +29,26 @@ pub(crate) fn make_depot(
     }
     for _ in 0..shape.sites {
         let place = random.below(shape.sited.min(shape.junctions));
-        depot.sites.push(place)?;
+        let junction = shape.sited_from.saturating_add(place).min(last);
+        depot.sites.push(junction)?;
     }
     Ok(depot)
+}
+
+// Onward along a line, back to the tail itself, where the arc before leads, or anywhere.
+fn any_head(random: &mut Random, shape: Shape, depot: &Depot, tail: u32, is_first: bool) -> u32 {
+    let last = shape.junctions.saturating_sub(1);
+    if shape.line && (is_first || random.once_in(2)) {
+        return tail.saturating_add(1).min(last);
+    }
+    if shape.knotted {
+        match random.below(5) {
+            0 => return tail,
+            1 => return at(&depot.heads, depot.arcs().saturating_sub(1)),
+            _ => {}
+        }
+    }
+    random.between(0, last)
 }
 
 fn add_arc(
@@ -135,6 +64,30 @@ fn add_arc(
     };
     depot.heads.push(head)?;
     depot.metres.push(metres)?;
+    if depot.arcs() > shape.kinds {
+        add_points_of(depot, random.below(shape.kinds))?;
+    } else {
+        add_points(depot, random, shape)?;
+    }
+    let all = count(depot.departures.len());
+    depot.points.push(all)?;
+    Ok(())
+}
+
+// The points of an earlier arc once more.
+fn add_points_of(depot: &mut Depot, arc: u32) -> Result<(), AllocError> {
+    let first = at(&depot.points, arc);
+    let end = at(&depot.points, arc.saturating_add(1));
+    for place in first..end {
+        let departure = at(&depot.departures, place);
+        let arrival = at(&depot.arrivals, place);
+        depot.departures.push(departure)?;
+        depot.arrivals.push(arrival)?;
+    }
+    Ok(())
+}
+
+fn add_points(depot: &mut Depot, random: &mut Random, shape: Shape) -> Result<(), AllocError> {
     let points = random.between(2, shape.points);
     let mut departure = 0;
     let mut arrival = 0;
@@ -146,8 +99,6 @@ fn add_arc(
         depot.departures.push(departure)?;
         depot.arrivals.push(arrival)?;
     }
-    let all = count(depot.departures.len());
-    depot.points.push(all)?;
     Ok(())
 }
 
