@@ -1,10 +1,10 @@
 // The depot that both programs make, and what its clock roads answer.
 use crate::numbers::Random;
+use crate::sizes::Sizes;
 
 pub const LAST: u32 = 86_400;
-const SITES: usize = 64;
-const SEGMENTS: [u32; 5] = [0, 21_600, 32_400, 57_600, 68_400];
-const NEAREST: usize = 8;
+pub const SEGMENTS: [u32; 8] = [0, 21_600, 32_400, 57_600, 68_400, 72_000, 75_600, 79_200];
+pub const MOST_NEAREST: usize = 8;
 
 #[derive(Default)]
 pub struct Depot {
@@ -23,14 +23,15 @@ pub struct Depot {
 impl Depot {
     // A square of junctions with a street to each neighbour, slow in the morning and less so in the evening, each by its own
     // pace; and sites at random.
-    pub fn grid(side: usize) -> Depot {
+    pub fn grid(sizes: Sizes) -> Depot {
+        let Sizes { side, sites, segments, nearest, .. } = sizes;
         let mut random = Random::seeded(0x9E37_79B9_7F4A_7C15);
         let mut depot = Depot {
             starts: vec![0],
             points: vec![0],
-            segments: SEGMENTS.to_vec(),
-            nearest: NEAREST,
-            bays: vec![(2, 0); SITES],
+            segments: SEGMENTS[..segments].to_vec(),
+            nearest,
+            bays: vec![(2, 0); sites],
             ..Depot::default()
         };
         let n = side * side;
@@ -46,7 +47,7 @@ impl Depot {
             }
             depot.starts.push(depot.heads.len() as u32);
         }
-        depot.sites.extend((0..SITES).map(|_| random.below(n as u32)));
+        depot.sites.extend((0..sites).map(|_| random.below(n as u32)));
         depot
     }
 
@@ -70,6 +71,10 @@ impl Depot {
             sited[*site as usize] = true;
         }
         sited
+    }
+
+    pub fn sites_at(&self, v: usize) -> impl Iterator<Item = u32> {
+        self.sites.iter().enumerate().filter(move |(_, place)| **place as usize == v).map(|(site, _)| site as u32)
     }
 
     pub fn free_sites(&self) -> u64 {
@@ -116,5 +121,9 @@ impl Depot {
             }
         }
         least
+    }
+
+    pub fn least_times(&self, segment: usize) -> Vec<u32> {
+        (0..self.heads.len()).map(|arc| self.least_time(segment, arc)).collect()
     }
 }

@@ -1,13 +1,28 @@
-// The index of least times: laying, loading, and the estimates by it.
+// The index of least times: loading it, and the estimates by it.
 use crate::depot::{Depot, LAST};
-use crate::heap::Heap;
-use crate::numbers::NONE;
+use crate::row::{NO_ENTRY, Row};
 
 const MISSING: u32 = 65_535;
 
+#[derive(PartialEq)]
 pub struct Index {
     pub sites: Vec<u32>,
     pub times: Vec<u32>,
+}
+
+impl Index {
+    // Every entry is missing.
+    pub fn empty(depot: &Depot) -> Index {
+        let entries = depot.segments.len() * depot.junctions() * depot.nearest;
+        Index { sites: vec![MISSING; entries], times: vec![0; entries] }
+    }
+
+    pub fn write(&mut self, at: usize, row: &[(u32, u32)]) {
+        for (r, (time, site)) in row.iter().enumerate() {
+            self.sites[at + r] = *site;
+            self.times[at + r] = *time;
+        }
+    }
 }
 
 pub fn guided(depot: &Depot, index: &Index, v: usize, t: u32, wanted: u64) -> Option<u32> {
@@ -38,78 +53,15 @@ pub fn guided(depot: &Depot, index: &Index, v: usize, t: u32, wanted: u64) -> Op
     Some((t + time).min(depot.segment_end(i)))
 }
 
-// One entry comes into a row that is in order, each site once, at most `most` of them.
-pub fn offer(row: &mut Vec<(u32, u32)>, most: usize, time: u32, site: u32) {
-    if let Some(at) = row.iter().position(|x| x.1 == site) {
-        if row[at].0 <= time {
-            return;
-        }
-        row.remove(at);
-    }
-    let at = row.partition_point(|x| *x < (time, site));
-    if at < most {
-        row.insert(at, (time, site));
-        row.truncate(most);
-    }
-}
-
-// The nearest sites of every junction, by a search from each over the arcs' least times.
-pub fn lay(depot: &Depot) -> Index {
-    let (n, most, sited) = (depot.junctions(), depot.nearest, depot.sited());
-    let mut index = Index { sites: vec![MISSING; depot.segments.len() * n * most], times: vec![0; depot.segments.len() * n * most] };
-    let mut times = vec![NONE; n];
-    let mut heap = Heap::new(n);
-    let mut row = Vec::with_capacity(most + 1);
-    for i in 0..depot.segments.len() {
-        let costs: Vec<u32> = (0..depot.heads.len()).map(|a| depot.least_time(i, a)).collect();
-        for from in 0..n {
-            times.fill(NONE);
-            heap.clear();
-            row.clear();
-            times[from] = 0;
-            heap.set(0, from as u32);
-            while let Some((time, v)) = heap.take_least() {
-                let (v, time) = (v as usize, time as u32);
-                if row.len() == most && row.last().is_some_and(|x: &(u32, u32)| time > x.0) {
-                    break;
-                }
-                if sited[v] {
-                    for (site, place) in depot.sites.iter().enumerate() {
-                        if *place as usize == v {
-                            offer(&mut row, most, time, site as u32);
-                        }
-                    }
-                }
-                for arc in depot.arcs_of(v) {
-                    let head = depot.heads[arc] as usize;
-                    if time + costs[arc] < times[head] {
-                        times[head] = time + costs[arc];
-                        heap.set(times[head] as u64, head as u32);
-                    }
-                }
-            }
-            let at = (i * n + from) * most;
-            for (r, (time, site)) in row.iter().enumerate() {
-                index.sites[at + r] = *site;
-                index.times[at + r] = *time;
-            }
-        }
-    }
-    index
-}
-
 // Whether each row is what its junction's sites and its arcs' heads offer.
 pub fn load(depot: &Depot, index: &Index) -> bool {
     let (n, most, sited) = (depot.junctions(), depot.nearest, depot.sited());
-    let mut row = Vec::with_capacity(most + 1);
     for i in 0..depot.segments.len() {
         for v in 0..n {
-            row.clear();
+            let mut row = Row::EMPTY;
             if sited[v] {
-                for (site, place) in depot.sites.iter().enumerate() {
-                    if *place as usize == v {
-                        offer(&mut row, most, 0, site as u32);
-                    }
+                for site in depot.sites_at(v) {
+                    row.offer(most, (0, site));
                 }
             }
             for arc in depot.arcs_of(v) {
@@ -119,12 +71,12 @@ pub fn load(depot: &Depot, index: &Index) -> bool {
                     if index.sites[r] == MISSING {
                         break;
                     }
-                    offer(&mut row, most, index.times[r] + cost, index.sites[r]);
+                    row.offer(most, (index.times[r] + cost, index.sites[r]));
                 }
             }
             let at = (i * n + v) * most;
             for r in 0..most {
-                let (time, site) = row.get(r).copied().unwrap_or((0, MISSING));
+                let (time, site) = if row.entries[r] == NO_ENTRY { (0, MISSING) } else { row.entries[r] };
                 if (index.sites[at + r], index.times[at + r]) != (site, time) {
                     return false;
                 }

@@ -1,23 +1,27 @@
 // A plain program that does what the library's program of measurement does, with the same algorithms on the same depot, so
 // that their times can be laid side by side.
 //
-//     plain [SIDE [CARRYINGS]]
+//     plain [SIDE [CARRYINGS [SITES [SEGMENTS [NEAREST]]]]]
 //
 // What was computed goes to standard output, and how long it took, in seconds, to standard error.
 mod asking;
 mod depot;
 mod heap;
 mod index;
+mod laying;
 mod numbers;
+mod row;
+mod sizes;
 
 use asking::Asking;
 use depot::{Depot, LAST};
-use index::{guided, lay, load};
+use index::{guided, load};
+use laying::{lay, lay_from_each};
 use numbers::{Random, Sum};
+use sizes::Sizes;
 use std::env;
 use std::time::Instant;
 
-const MOST_SIDE: usize = 64;
 const START: u32 = 28_800;
 const ASKED: usize = 5;
 
@@ -66,14 +70,16 @@ fn time_asking(name: &str, depot: &Depot, estimate: impl Fn(usize, u32, u64) -> 
     println!("{name} listed {listed} steps {steps} sites {sites} readings {readings}");
 }
 
-fn measure(side: usize, carryings: u32) {
-    let depot = Depot::grid(side);
+fn measure(sizes: Sizes) {
+    let depot = Depot::grid(sizes);
+    let side = sizes.side;
     let (arcs, points) = (depot.heads.len(), depot.departures.len());
     let (Sum(heads), Sum(arrivals), Sum(sites)) = (Sum::of(&depot.heads), Sum::of(&depot.arrivals), Sum::of(&depot.sites));
     println!("grid {side} arcs {arcs} points {points} heads {heads} arrivals {arrivals} sites {sites}");
-    time_carrying(&depot, carryings);
+    time_carrying(&depot, sizes.carryings);
     time_asking("ask-bare", &depot, |_, t, _| Some(t));
     let index = timed("lay", || lay(&depot));
+    assert!(timed("lay-each", || lay_from_each(&depot)) == index, "the two ways of laying differ");
     let (Sum(sites), Sum(times)) = (Sum::of(&index.sites), Sum::of(&index.times));
     println!("lay entries {} sites {sites} times {times}", index.sites.len());
     let accepted = timed("load", || load(&depot, &index));
@@ -82,7 +88,6 @@ fn measure(side: usize, carryings: u32) {
 }
 
 fn main() {
-    let mut numbers = env::args().skip(1).map(|word| word.parse::<u32>().expect("a number"));
-    let side = numbers.next().unwrap_or(64) as usize;
-    measure(side.clamp(2, MOST_SIDE), numbers.next().unwrap_or(1_000_000));
+    let numbers: Vec<u32> = env::args().skip(1).map(|word| word.parse().expect("a number")).collect();
+    measure(Sizes::of(&numbers));
 }

@@ -3,12 +3,11 @@
 ghost use Rattle.std.specs.Prelude.{◌≤◌};
 
 use crate::random::Random;
+use crate::sizes::Sizes;
 use clock::{ClockTables, LAST_DEPARTURE};
 use std::alloc::{AllocError, Global};
 
 pub(crate) const MOST_SIDE: u32 = 64;
-
-pub(crate) const SITES: u32 = 64;
 
 const SEED: u64 = 0x9e37_79b9_7f4a_7c15;
 
@@ -81,15 +80,14 @@ impl Making {
     }
 }
 
-pub(crate) fn grid(heap: Global, side: u32) -> Result<ClockTables, AllocError>
-    requires { side ≤ 64 }
-{
+pub(crate) fn grid(heap: Global, sizes: Sizes) -> Result<ClockTables, AllocError> {
     let mut making = Making::begun(heap)?;
+    let side = sizes.side;
     let junctions = side * side;
     for here in 0..junctions {
         making.add_junction(side, here)?;
     }
-    for _ in 0..SITES {
+    for _ in 0..sizes.sites {
         let place = making.random.below(junctions);
         making.tables.sites.push(place)?;
     }

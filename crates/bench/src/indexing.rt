@@ -1,5 +1,6 @@
 // Laying the index over the grid's roads, and loading it.
 use crate::asking::slots;
+use crate::sizes::Sizes;
 use crate::sums::Sum;
 use crate::timing::Timing;
 use clock::{ClockRoads, ClockTables};
@@ -8,26 +9,28 @@ use laying::lay;
 use network::Network;
 use queue::{Key, Slot};
 
-const SEGMENTS: [u32; 5] = [0, 21_600, 32_400, 57_600, 68_400];
+pub(crate) const SEGMENTS: [u32; 8] = [0, 21_600, 32_400, 57_600, 68_400, 72_000, 75_600, 79_200];
 
-const NEAREST: u32 = 8;
+pub(crate) const MOST_NEAREST: u32 = 8;
 
 // The tables with their index, and the work list.
 pub(crate) fn lay_index(
     rt: &HostRuntime,
     roads: ClockRoads,
+    sizes: Sizes,
 ) -> anyhow::Result<(IndexTables, Vec<Slot<Key>>)> {
     let heap = rt.alloc();
-    let rows = roads.junctions() as usize * NEAREST as usize;
-    let entries = rows * SEGMENTS.len();
+    let segments = &SEGMENTS[..sizes.segments];
+    let rows = roads.junctions() as usize * sizes.nearest as usize;
+    let entries = rows * segments.len();
     let mut sites = vec![in heap; 0u32; entries]?;
     let mut times = vec![in heap; 0u32; entries]?;
     let mut work = slots(heap, rows)?;
     let timing = Timing::begun(rt)?;
     let laid = lay(
         &roads,
-        &SEGMENTS,
-        NEAREST,
+        segments,
+        sizes.nearest,
         sites.as_mut_slice(),
         times.as_mut_slice(),
         work.as_mut_slice(),
@@ -39,8 +42,8 @@ pub(crate) fn lay_index(
     show_index(rt, &sites, &times)?;
     let index = IndexTables {
         tables: ClockTables::from(roads),
-        segments: SEGMENTS.to_vec(heap)?,
-        nearest: NEAREST,
+        segments: segments.to_vec(heap)?,
+        nearest: sizes.nearest,
         sites,
         times,
     };

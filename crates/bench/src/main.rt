@@ -15,9 +15,9 @@ use asking::{Room, ask_from_all};
 use board::Board;
 use carrying::{carry_all, enterings};
 use clock::{ClockRoads, ClockTables, Seconds};
-use grid::{SITES, grid};
+use grid::grid;
 use indexing::{lay_index, load_index};
-use network::{Guide, Network};
+use network::{Guide, MOST_SITES, Network};
 use sizes::Sizes;
 use std::env;
 use sums::Sum;
@@ -27,31 +27,28 @@ fn main(rt: HostRuntime) -> anyhow::Result<()> {
     run(&rt)
 }
 
-// The side of the square, and how many carryings there are, may be said.
+// The sizes may be said: SIDE CARRYINGS SITES SEGMENTS NEAREST, or the first of them.
 fn run(rt: &HostRuntime) -> anyhow::Result<()> {
-    let mut sizes = Sizes::most();
-    let mut words = env::args(rt)?.skip(1);
-    if let Some(word) = words.next() {
-        sizes.set_side(word.as_str().parse::<u32>()?);
+    let mut numbers = Vec::new(rt.alloc());
+    for word in env::args(rt)?.skip(1) {
+        numbers.push(word.as_str().parse::<u32>()?)?;
     }
-    if let Some(word) = words.next() {
-        sizes.carryings = word.as_str().parse::<u32>()?;
-    }
-    measure(rt, sizes)
+    measure(rt, Sizes::of(&numbers))
 }
 
 fn measure(rt: &HostRuntime, sizes: Sizes) -> anyhow::Result<()> {
-    let tables = grid(rt.alloc(), sizes.side)?;
+    let tables = grid(rt.alloc(), sizes)?;
     show_tables(rt, sizes.side, &tables)?;
     let Ok(roads) = ClockRoads::try_from(tables) else {
         anyhow::bail!("the tables are refused")
     };
-    let Ok(board) = Board::new(1, &[2; SITES as usize]) else {
+    let bays = [2; MOST_SITES];
+    let Ok(board) = Board::new(1, &bays[..sizes.sites]) else {
         anyhow::bail!("the board is refused")
     };
     time_carrying(rt, &roads, sizes.carryings)?;
     time_asking(rt, "ask-bare", &roads, &board)?;
-    let (index, mut work) = lay_index(rt, roads)?;
+    let (index, mut work) = lay_index(rt, roads, sizes)?;
     let guided = load_index(rt, index, work.as_mut_slice())?;
     time_asking(rt, "ask-guided", &guided, &board)
 }
