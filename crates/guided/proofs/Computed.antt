@@ -1,23 +1,20 @@
 -- A row that is computed by the arcs' least times is the right one, and what the first row that differs tells. Assumes nothing.
-use Rattle.std.proofs.Common.{◌≡◌, ℕ, ◌<◌, ◌≤◌, ltb, List, [], ◌∷◌, length, map, Some, None, Option, refl, sym, ap, ◌∙◌, arith}
+use Rattle.std.proofs.Common.{◌≡◌, ℕ, ◌<◌, ◌≤◌, ltb, List, length, map, Some, None, Option, refl, sym, ap, ◌∙◌, arith}
 use Rattle.std.specs.List.{range_with_len}
 use Rattle.std.specs.Option.{option_map}
 use Rattle.clock.specs.Held.{road_lists}
 use Rattle.least.specs.Held.{day_firsts}
 use Rattle.least.specs.Times.{least_in_segment}
-use Rattle.network.specs.Model.{Roads}
-use Rattle.network.specs.Paths.{Chain}
+use Rattle.network.specs.Model.{there}
 use Rattle.network.specs.declared.refusals.Refusal.{Refusal}
 use Rattle.network.proofs.First.{clash, first_at, first_none}
 use Rattle.network.proofs.Following.{provided_says}
-use Rattle.rows.specs.Nearest.{Nearest}
-use Rattle.rows.specs.Rows.{total, Takes}
+use Rattle.rows.specs.Rows.{Takes, Defined}
 use Rattle.rows.specs.declared.entry.Entry.{Entry}
-use Rattle.rows.proofs.Crowds.{serving_from, nearest_from}
-use Rattle.rows.proofs.Offers.{serving_same}
 use Rattle.rows.proofs.Uniqueness.{one_nearest}
 use Rattle.laying.specs.Costs.{cost_by, costs_of}
 use Rattle.laying.proofs.Costing.{made_long, made_at}
+use Rattle.laying.proofs.Layouts.{nearest_same}
 use Rattle.guided.specs.Faults.{differs}
 use Rattle.guided.specs.Indexed.{lists_of}
 use Rattle.guided.specs.Lists.{Lists, network_of, arc_times, difference_from}
@@ -25,18 +22,6 @@ use Rattle.guided.specs.Offers.{row_difference, segment_difference}
 use Rattle.guided.specs.Loads.{RightRows}
 use Rattle.guided.specs.declared.indexed.IndexedRoads.{IndexedRoads}
 use Rattle.guided.proofs.Differences.{difference_is}
-
--- times that agree on the arcs take chains alike
-module _ (m : Roads) (f g : ℕ → ℕ) (alike : (a : ℕ) → a < m.arcs → f a ≡ g a) where
-  total_same : (arcs : List ℕ) (v w : ℕ) → Chain m v arcs w → total f arcs ≡ total g arcs
-  total_same [] v w c = refl
-  total_same (a ∷ arcs) v w c = let here = alike a c.0 in let rest = total_same arcs (m.head a) w c.2 in omega arith
-
-  takes_same : (v s t : ℕ) → Takes m f v s t → Takes m g v s t
-  takes_same v s t p = (p.0, p.1, p.2, sym (total_same p.1 v (m.place s) p.2) ∙ p.3)
-
-pub nearest_same : (m : Roads) (f g : ℕ → ℕ) → ((a : ℕ) → a < m.arcs → f a ≡ g a) → (C v : ℕ) (l : List Entry) → Nearest C (Takes m f v) l → Nearest C (Takes m g v) l
-nearest_same m f g alike C v l n = nearest_from C (Takes m g v) l (serving_same C (Takes m f v) (Takes m g v) l (takes_same m f g alike v) (takes_same m g f (λ a k. sym (alike a k)) v) (serving_from C (Takes m f v) l n))
 
 module _ (r : IndexedRoads) (i : ℕ) (here : i < length (lists_of r).segments) (list : List ℕ) (made : Some list ≡ costs_of (road_lists r.roads) (day_firsts r.day) i) where
   abbrev x : Lists
@@ -51,8 +36,11 @@ module _ (r : IndexedRoads) (i : ℕ) (here : i < length (lists_of r).segments) 
   cost_is : (a : ℕ) → a < (network_of x).arcs → cost_by list a ≡ arc_times x i a
   cost_is a l = made_at (least_in_segment (road_lists r.roads) (day_firsts r.day) i) (network_of x).arcs list list_is a l ∙ ap (λ f. least_in_segment (road_lists r.roads) f i a) r.cut
 
-  pub computed_right : (rows : ℕ → ℕ → List Entry) → RightRows x rows → (v : ℕ) (row : List Entry) → v < (network_of x).junctions → Nearest x.nearest (Takes (network_of x) (cost_by list) v) row → row ≡ rows i v
-  computed_right rows right v row l n = one_nearest row (rows i v) x.nearest (Takes (network_of x) (arc_times x i) v) (nearest_same (network_of x) (cost_by list) (arc_times x i) cost_is x.nearest v row n) (right i here v l)
+  -- a row that is read of the rows by these costs
+  pub computed_right : (rows : ℕ → ℕ → List Entry) → RightRows x rows → (n : ℕ) (made : ℕ → List Entry) → Defined (network_of x) (cost_by list) x.nearest made → (v : ℕ) (row : List Entry) → v < (network_of x).junctions → Some row ≡ there n made v → row ≡ rows i v
+  computed_right rows right n made least v row l e =
+      let same : made v ≡ row = (provided_says (ltb v n) (made v) row (sym e)).1 in
+      sym same ∙ one_nearest (made v) (rows i v) x.nearest (Takes (network_of x) (arc_times x i) v) (nearest_same (network_of x) (cost_by list) (arc_times x i) cost_is x.nearest v (made v) (least v l)) (right i here v l)
 
 module _ (x : Lists) (rows : ℕ → ℕ → List Entry) where
   -- the first row of a segment that differs tells where the segment does

@@ -7,7 +7,7 @@ ghost use Rattle.guided.specs.Offers.{offered_of, own_difference, row_difference
 
 use crate::indexed::IndexedRoads;
 use network::Network;
-use rows::{Entry, NO_SITE, Row};
+use rows::{Entry, NO_SITE};
 
 // What stands where a row has no more entries.
 const MISSING: Entry = Entry {
@@ -28,11 +28,11 @@ impl IndexedRoads {
         &self,
         segment: u32,
         junction: u32,
-        right: &Row,
+        right: &[Entry],
     ) -> Option<(u32, u32, u32)>
         requires segment { segment < length (lists_of self.now).segments }
         requires junction { junction < (network_of (lists_of self.now)).junctions }
-        ensures { result ≡ row_difference (lists_of self.now) segment junction right.now.entries.items }
+        ensures { result ≡ row_difference (lists_of self.now) segment junction right.now }
     {
         let (sites, times) = self.row(segment, junction)?;
         for entry in 0..self.nearest {
@@ -41,7 +41,7 @@ impl IndexedRoads {
                 site: sites[at],
                 time: times[at],
             };
-            if listed != entry_at(right.entries(), at) {
+            if listed != entry_at(right, at) {
                 return Some((segment, junction, entry));
             }
         }
@@ -54,7 +54,9 @@ impl IndexedRoads {
         ensures { let x = lists_of self.now in MatchBool result (row_difference x segment junction (offered_of x segment junction) ≡ None) (own_difference x ≡ None → ⊥) }
     {
         match self.offered_row(segment, junction) {
-            Some(row) => self.row_difference(segment, junction, &row).is_none(),
+            Some(row) => self
+                .row_difference(segment, junction, row.entries())
+                .is_none(),
             None => false,
         }
     }

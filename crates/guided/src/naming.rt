@@ -11,7 +11,7 @@ ghost use Rattle.guided.specs.Loads.{RightRows};
 
 use crate::faults::LoadFault;
 use crate::indexed::IndexedRoads;
-use laying::{Costs, nearest_row};
+use laying::{Costs, NearestRows};
 use network::Network;
 use queue::{Key, Slot};
 
@@ -25,11 +25,14 @@ impl IndexedRoads {
         let Some(costs) = Costs::of(&self.roads, &self.day, segment) else {
             unreachable!()
         };
+        let Some(rows) = NearestRows::of(&self.roads, &costs, self.nearest, work) else {
+            unreachable!()
+        };
         for junction in 0..self.roads.junctions() {
-            let Some(row) = nearest_row(&self.roads, &costs, self.nearest, junction, work) else {
+            let Some(row) = rows.row(junction) else {
                 unreachable!()
             };
-            if let Some(place) = self.row_difference(segment, junction, &row) {
+            if let Some(place) = self.row_difference(segment, junction, row) {
                 return Err(LoadFault::Differs(place));
             }
         }

@@ -7,8 +7,7 @@ use Rattle.network.proofs.First.{every_below, every_from}
 use Rattle.network.proofs.Following.{provided_says}
 use Rattle.clock.specs.Tables.{Tables}
 use Rattle.least.specs.Times.{least_in_segment}
-use Rattle.laying.specs.Costs.{costs_within, costs_of}
-use Rattle.laying.specs.Labels.{TimesWithin}
+use Rattle.laying.specs.Costs.{costs_within, costs_of, TimesWithin}
 
 within : List ℕ → ℕ → Bool
 within list a = leb 1 (get_or list a 0) && leb (get_or list a 0) 172800

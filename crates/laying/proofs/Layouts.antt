@@ -6,7 +6,8 @@ use Rattle.network.specs.Model.{Roads}
 use Rattle.network.specs.Paths.{Chain}
 use Rattle.rows.specs.Index.{place_at, listed_at, LeastIndex}
 use Rattle.rows.specs.Nearest.{Nearest}
-use Rattle.rows.specs.Rows.{total, Takes}
+use Rattle.rows.specs.Rows.{total, Takes, Defined}
+use Rattle.laying.specs.Costs.{cost_by}
 use Rattle.rows.specs.declared.entry.Entry.{Entry}
 use Rattle.rows.proofs.Crowds.{serving_from, nearest_from}
 use Rattle.rows.proofs.Existence.{swept, swept_defined}
@@ -33,19 +34,24 @@ module _ (sites times : List ℕ) where
     laid_kept i v p q others since same away laid row near r l =
         same (place_at m.junctions C i v 0 + r) (⊎_elim (λ h. inl (omega arith)) (λ h. inr (omega arith)) away) ∙ laid row near r l
 
-    -- the row of one more junction
-    pub laid_next : (i v p : ℕ) (others since : List ℕ) (row : List Entry) → Nearest C (Takes m f v) row → p ≡ place_at m.junctions C i v 0 → Stands row C p others since → SameOutside p (p + C) sites times others since → ((w : ℕ) → w < v → Laid m f C i w sites times) → (w : ℕ) → w < v + 1 → Laid m f C i w others since
-    laid_next i v p others since row near at stands same before w l =
-        ⊎_elim
-        (λ e. subst (λ u. Laid m f C i u others since) (sym e) here)
-        (λ h. let low : w < v = omega arith in laid_kept i w p (p + C) others since same (inl (earlier low)) (before w low))
-        (cases_eq w v)
-      where
-        here : Laid m f C i v others since
-        here other n = subst (λ o. Stands o C (place_at m.junctions C i v 0) others since) (one_nearest row other C (Takes m f v) near n) (subst (λ k. Stands row C k others since) at stands)
+-- one more row stands
+module _ (n C i v p : ℕ) (rows : ℕ → List Entry) (sites times others since : List ℕ) (at : p ≡ place_at n C i v 0) (here : Stands (rows v) C p others since) (same : SameOutside p (p + C) sites times others since) where
+  pub stands_next : ((w : ℕ) → w < v → Stands (rows w) C (place_at n C i w 0) sites times) → (w : ℕ) → w < v + 1 → Stands (rows w) C (place_at n C i w 0) others since
+  stands_next before w l =
+      ⊎_elim
+      (λ e. subst (λ u. Stands (rows u) C (place_at n C i u 0) others since) (sym e) (subst (λ k. Stands (rows v) C k others since) at here))
+      (λ h. let low : w < v = omega arith in λ r k. same (place_at n C i w 0 + r) (inl (let e = earlier w low in omega arith)) ∙ before w low r k)
+      (cases_eq w v)
+    where
+      earlier : (w : ℕ) → w < v → place_at n C i w 0 + C ≤ p
+      earlier w low = let a = mul-le (i * n + w + 1) C (i * n + v) C (omega arith) (omega arith) in omega arith
 
-        earlier : w < v → place_at m.junctions C i w 0 + C ≤ p
-        earlier low = let a = mul-le (i * m.junctions + w + 1) C (i * m.junctions + v) C (omega arith) (omega arith) in omega arith
+-- rows of least sums that stand are laid
+pub laid_from : (m : Roads) (costs lent : List ℕ) (C n i : ℕ) (rows : ℕ → List Entry) (sites times : List ℕ) → lent ≡ costs → n ≡ m.junctions → Defined m (cost_by lent) C rows → ((v : ℕ) → v < n → Stands (rows v) C (place_at n C i v 0) sites times) → (v : ℕ) → v < m.junctions → Laid m (cost_by costs) C i v sites times
+laid_from m costs lent C n i rows sites times e s least stands v l row near =
+    let defined : Defined m (cost_by costs) C rows = subst (λ k. Defined m (cost_by k) C rows) e least in
+    let there : Stands (rows v) C (place_at m.junctions C i v 0) sites times = subst (λ k. Stands (rows v) C (place_at k C i v 0) sites times) s (stands v (omega arith)) in
+    subst (λ o. Stands o C (place_at m.junctions C i v 0) sites times) (one_nearest (rows v) row C (Takes m (cost_by costs) v) (defined v l) near) there
 
 -- The row of a junction hangs on no more than the times of the arcs that are there.
 module _ (m : Roads) (f g : ℕ → ℕ) (agree : (a : ℕ) → a < m.arcs → f a ≡ g a) where

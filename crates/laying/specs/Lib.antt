@@ -2,8 +2,8 @@ pub mod Costs
 pub mod Held
 pub mod Faults
 pub mod Admitted
-pub mod Fronts
-pub mod Labels
-pub mod Standing
-pub mod Sited
 pub mod Places
+pub mod Incoming
+pub mod Settling
+pub mod Search
+pub mod NearestRows

@@ -9,7 +9,7 @@ use crate::faults::LayFault;
 use least::Day;
 use rows::MOST_ENTRIES;
 
-// How long the lists of an index and the work list are.
+/// How long the lists of an index and the work list are.
 #[derive(Clone, Copy)]
 pub struct Room {
     pub sites: usize,
@@ -17,7 +17,8 @@ pub struct Room {
     pub work: usize,
 }
 
-// The day, where nothing is refused, over so many junctions.
+/// The day, where nothing is refused of an index over so many junctions: by the segments (9), by how many entries a row has
+/// or how long a list is (10), by a work list that is too short (17), in this order.
 #[tactic(auto, unfolding(crate::specs::Admitted::lay_refusal))]
 pub fn admit(segments: &[u32], junctions: u32, most: u32, room: Room) -> Result<Day, LayFault>
     ensures refusal { refused lay_fault result ≡ lay_refusal junctions segments.now most room.sites room.times room.work }

@@ -6,6 +6,7 @@ use arrayvec::ArrayVec;
 
 pub(crate) const MOST_ARCS: usize = 16_384;
 
+/// The least time of each arc in one segment of the day, 1 to 172,800 seconds.
 #[derive(Drop)]
 pub struct Costs {
     pub(crate) list: ArrayVec<u32, MOST_ARCS>,

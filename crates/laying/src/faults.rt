@@ -6,6 +6,7 @@ ghost use Rattle.laying.specs.declared.faults.LayFault.TheVariants.{Segments};
 use least::DayFault;
 use network::Refusal;
 
+/// Why an index is not laid: refusals 9, 10 and 17.
 #[derive(Clone, Copy, PartialEq, Eq, Debug)]
 pub enum LayFault {
     Segments(DayFault),

@@ -1,68 +1,61 @@
 // Laying the index: for each segment of the day and each junction, the row of the sites that are nearest.
-ghost use Rattle.std.specs.Prelude.{◌≡◌, ℕ, ◌+◌, ◌*◌, ◌<◌, ◌≤◌, OnOk, OnErr, length};
+ghost use Rattle.std.specs.Prelude.{◌≡◌, ℕ, ◌+◌, ◌<◌, ◌≤◌, OnOk, OnErr, length};
 ghost use Rattle.clock.specs.Held.{road_lists};
 ghost use Rattle.clock.specs.Model.{clock_roads};
 ghost use Rattle.laying.specs.Admitted.{lay_refusal};
 ghost use Rattle.laying.specs.Faults.{lay_fault};
 ghost use Rattle.laying.specs.Held.{costs_in};
 ghost use Rattle.laying.specs.Costs.{cost_by};
-ghost use Rattle.laying.specs.Places.{Laid, SameOutside};
+ghost use Rattle.laying.specs.Incoming.{Links};
+ghost use Rattle.laying.specs.Places.{Laid, SameElsewhere, segment_at};
+ghost use Rattle.laying.specs.Search.{IsIdle, IsSized};
 ghost use Rattle.least.specs.Times.{least_in_segment};
 ghost use Rattle.network.specs.Refused.{refused};
-ghost use Rattle.rows.specs.Index.{LeastIndex, place_at};
+ghost use Rattle.rows.specs.Index.{IsOnlyIndex, LeastIndex};
 
 use crate::admission::{Room, admit};
 use crate::costs::Costs;
 use crate::faults::LayFault;
-use crate::labels::NO_TIME;
-use crate::nearest::row_from;
-use crate::standing::Sited;
-use crate::writing::{place_of, write_row};
+use crate::incoming::IncomingArcs;
+use crate::search::Search;
 use clock::ClockRoads;
-use network::{MOST_JUNCTIONS, Network};
+use network::Network;
 use queue::{Key, Slot};
 
-// The rows of one segment.
+/// Writes the rows of one segment.
 fn lay_segment<N: Network>(
     roads: &N,
+    incoming: &IncomingArcs,
     costs: &Costs,
-    most: u32,
     segment: u32,
+    search: &mut Search,
     sites: &mut [u32],
     times: &mut [u32],
-    work: &mut [Slot<Key>],
 )
-    requires some { 1 ≤ most }
-    requires short { most ≤ 8 }
     requires segment { segment < 8 }
+    requires links { Links (N.roads roads.now) incoming.now }
     requires costs { length (costs_in costs.now) ≡ (N.roads roads.now).arcs }
-    requires sites { place_at (N.roads roads.now).junctions most (segment + 1) 0 0 ≤ length sites.old }
-    requires times { place_at (N.roads roads.now).junctions most (segment + 1) 0 0 ≤ length times.old }
-    requires work { (N.roads roads.now).junctions ≤ length work.old }
-    ensures rows { let m = N.roads roads.now in (v : ℕ) → v < m.junctions → Laid m (cost_by (costs_in costs.now)) most segment v sites.new times.new }
-    ensures rest { let n = (N.roads roads.now).junctions in SameOutside (place_at n most segment 0 0) (place_at n most (segment + 1) 0 0) sites.old times.old sites.new times.new }
+    requires sized { IsSized (N.roads roads.now).junctions search.old }
+    requires idle { IsIdle search.old }
+    requires sites { let n = (N.roads roads.now).junctions in
+        segment_at n search.old.most (segment + 1) ≤ length sites.old }
+    requires times { let n = (N.roads roads.now).junctions in
+        segment_at n search.old.most (segment + 1) ≤ length times.old }
+    ensures sized { IsSized (N.roads roads.now).junctions search.new }
+    ensures most { search.new.most ≡ search.old.most }
+    ensures idle { IsIdle search.new }
+    ensures rows { let m = N.roads roads.now in
+        let f = cost_by (costs_in costs.now) in
+        (v : ℕ) → v < m.junctions → Laid m f search.old.most segment v sites.new times.new }
+    ensures rest { let n = (N.roads roads.now).junctions in
+        SameElsewhere n search.old.most segment sites.old times.old sites.new times.new }
 {
-    let n = roads.junctions();
-    let sited = Sited::of(roads);
-    let mut room = [NO_TIME; MOST_JUNCTIONS];
-    for junction in 0..n {
-        let Some(row) = row_from(
-            roads,
-            costs.as_slice(),
-            &sited,
-            most,
-            junction,
-            &mut room,
-            work,
-        ) else {
-            unreachable!();
-        };
-        let place = place_of(n, most, segment, junction);
-        write_row(row.entries(), most as usize, place, sites, times);
-    }
+    search.fill(roads, costs.as_slice(), incoming);
+    search.write(segment, sites, times);
 }
 
-// Each list is written from end to end, and only when nothing is refused. The work list is scratch.
+/// Writes the index of least times from end to end, or nothing where it is refused: by the segments (9), by how many entries
+/// a row has or how long a list is (10), by a work list that is too short (17), in this order. The work list is scratch.
 pub fn lay(
     roads: &ClockRoads,
     segments: &[u32],
@@ -71,8 +64,17 @@ pub fn lay(
     times: &mut [u32],
     work: &mut [Slot<Key>],
 ) -> Result<(), LayFault>
-    ensures refusal { refused lay_fault result ≡ lay_refusal (clock_roads (road_lists roads.now)).junctions segments.now most (length sites.old) (length times.old) (length work.old) }
-    ensures index { OnOk result (LeastIndex (clock_roads (road_lists roads.now)) (length segments.now) most (least_in_segment (road_lists roads.now) segments.now) sites.new times.new) }
+    ensures refusal { let n = (clock_roads (road_lists roads.now)).junctions in
+        refused lay_fault result
+        ≡ lay_refusal n segments.now most (length sites.old) (length times.old) (length work.old) }
+    ensures index { let t = road_lists roads.now in
+        let least = least_in_segment t segments.now in
+        OnOk result
+        (LeastIndex (clock_roads t) (length segments.now) most least sites.new times.new) }
+    ensures only { let t = road_lists roads.now in
+        let least = least_in_segment t segments.now in
+        OnOk result
+        (IsOnlyIndex (clock_roads t) (length segments.now) most least sites.new times.new) }
     ensures sites_kept { OnErr result (sites.new ≡ sites.old) }
     ensures times_kept { OnErr result (times.new ≡ times.old) }
 {
@@ -81,12 +83,15 @@ pub fn lay(
         times: times.len(),
         work: work.len(),
     };
-    let day = admit(segments, roads.junctions(), most, room)?;
+    let n = roads.junctions();
+    let day = admit(segments, n, most, room)?;
+    let incoming = IncomingArcs::of(roads);
+    let mut search = Search::new(n, most, &mut work[..n as usize]);
     for segment in 0..day.count() {
         let Some(costs) = Costs::of(roads, &day, segment) else {
             unreachable!();
         };
-        lay_segment(roads, &costs, most, segment, sites, times, work);
+        lay_segment(roads, &incoming, &costs, segment, &mut search, sites, times);
     }
     Ok(())
 }

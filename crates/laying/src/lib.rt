@@ -4,18 +4,15 @@
 mod admission;
 mod costs;
 mod faults;
-mod filling;
+mod incoming;
 mod index;
-mod labels;
-mod lowering;
 mod nearest;
-mod standing;
+mod search;
 mod timing;
-mod trying;
 mod writing;
 
 pub use admission::{Room, admit};
 pub use costs::Costs;
 pub use faults::LayFault;
 pub use index::lay;
-pub use nearest::nearest_row;
+pub use nearest::NearestRows;

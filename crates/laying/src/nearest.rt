@@ -1,72 +1,59 @@
-// The row of a junction.
-ghost use Rattle.std.specs.Prelude.{◌≡◌, ◌<◌, ◌≤◌, ◌↔◌, IsSome, IfSome, length};
-ghost use Rattle.laying.specs.Held.{costs_in};
+// The sites that are nearest to each junction in one segment of the day.
+ghost use Rattle.std.specs.Prelude.{◌≡◌, ◌≤◌, ◌↔◌, IsSome, IfSome, length, option_map};
+ghost use Rattle.network.specs.Model.{there};
+ghost use Rattle.rows.specs.Rows.{Defined, IsOnlyDefined};
 ghost use Rattle.laying.specs.Costs.{cost_by};
-ghost use Rattle.laying.specs.Labels.{TimesWithin};
-ghost use Rattle.laying.specs.Sited.{Notes};
-ghost use Rattle.rows.specs.Nearest.{Nearest};
-ghost use Rattle.rows.specs.Rows.{Takes};
+ghost use Rattle.laying.specs.Held.{costs_in};
+ghost use Rattle.laying.specs.NearestRows.{junctions_in, rows_in};
 
 use crate::costs::Costs;
-use crate::labels::{Labels, NO_TIME};
-use crate::standing::Sited;
+use crate::incoming::IncomingArcs;
+use crate::search::Search;
+use arrayvec::ArrayVec;
 use network::{MOST_JUNCTIONS, Network};
 use queue::{Key, Slot};
-use rows::Row;
+use rows::{Entry, MOST_ENTRIES, Row};
 
-// The same of one run after another, with room for the junctions' times; nothing where a row cannot hold so many.
-pub(crate) fn row_from<N: Network>(
-    roads: &N,
-    costs: &[u32],
-    sited: &Sited,
-    most: u32,
-    junction: u32,
-    times: &mut [u32],
-    work: &mut [Slot<Key>],
-) -> Option<Row>
-    requires costs { TimesWithin (N.roads roads.now).arcs costs.now }
-    requires sites { Notes (N.roads roads.now) sited.now }
-    requires some { 1 ≤ most }
-    requires there { junction < (N.roads roads.now).junctions }
-    requires times { (N.roads roads.now).junctions ≤ length times.old }
-    requires work { (N.roads roads.now).junctions ≤ length work.old }
-    ensures variant { IsSome result ↔ (most ≤ 8) }
-    ensures most { IfSome result (λ r. r.most ≡ most) }
-    ensures row { IfSome result (λ r. Nearest most (Takes (N.roads roads.now) (cost_by costs.now) junction) r.entries.items) }
-{
-    let n = roads.junctions() as usize;
-    let mut row = Row::new(most)?;
-    let mut labels = Labels::new(&mut times[..n], &mut work[..n]);
-    labels.fill(roads, costs, sited, junction, most, &mut row);
-    Some(row)
+/// For each junction the sites of least time over all chains, at most so many, by time and then number.
+#[derive(Drop)]
+pub struct NearestRows {
+    pub(crate) rows: ArrayVec<Row, MOST_JUNCTIONS>,
 }
 
-// The sites that are nearest to a junction by least times, at most so many, 1 to 8; nothing where there is no such
-// junction, or the costs are not one for each arc, or the work list is shorter than the junctions.
-pub fn nearest_row<N: Network>(
-    roads: &N,
-    costs: &Costs,
-    most: u32,
-    junction: u32,
-    work: &mut [Slot<Key>],
-) -> Option<Row>
-    ensures variant { let m = N.roads roads.now in IsSome result ↔ ((1 ≤ most) × (most ≤ 8) × (junction < m.junctions) × (length (costs_in costs.now) ≡ m.arcs) × (m.junctions ≤ length work.old)) }
-    ensures most { IfSome result (λ r. r.most ≡ most) }
-    ensures row { IfSome result (λ r. Nearest most (Takes (N.roads roads.now) (cost_by (costs_in costs.now)) junction) r.entries.items) }
-{
-    let n = roads.junctions();
-    if most < 1 || junction >= n || costs.len() != roads.arcs() || work.len() < n as usize {
-        return None;
+impl NearestRows {
+    /// Rows of at most so many entries, 1 to 8, by the costs of a segment. Nothing where the costs are not one for each arc,
+    /// or the work list is shorter than the junctions. The work list is scratch.
+    pub fn of<N: Network>(
+        roads: &N,
+        costs: &Costs,
+        most: u32,
+        work: &mut [Slot<Key>],
+    ) -> Option<NearestRows>
+        ensures variant { let m = N.roads roads.now in
+            IsSome result ↔ ((1 ≤ most) × (most ≤ 8) × (length (costs_in costs.now) ≡ m.arcs)
+            × (m.junctions ≤ length work.old)) }
+        ensures junctions { IfSome result (λ r. junctions_in r ≡ (N.roads roads.now).junctions) }
+        ensures rows { let m = N.roads roads.now in
+            IfSome result (λ r. Defined m (cost_by (costs_in costs.now)) most (rows_in r)) }
+        ensures only { let m = N.roads roads.now in
+            IfSome result (λ r. IsOnlyDefined m (cost_by (costs_in costs.now)) most (rows_in r)) }
+    {
+        let n = roads.junctions();
+        let too_short = work.len() < n as usize;
+        if most < 1 || most as usize > MOST_ENTRIES || costs.len() != roads.arcs() || too_short {
+            return None;
+        }
+        let mut search = Search::new(n, most, &mut work[..n as usize]);
+        search.fill(roads, costs.as_slice(), &IncomingArcs::of(roads));
+        let Search { rows, .. } = search;
+        Some(NearestRows { rows })
     }
-    let mut times = [NO_TIME; MOST_JUNCTIONS];
-    let sited = Sited::of(roads);
-    row_from(
-        roads,
-        costs.as_slice(),
-        &sited,
-        most,
-        junction,
-        &mut times,
-        work,
-    )
+
+    /// A junction's entries; nothing where there is no such junction.
+    pub fn row(&self, junction: u32) -> Option<&[Entry]>
+        ensures { let rows = there (junctions_in self.now) (rows_in self.now) in
+            option_map (λ e. e.now) result ≡ rows junction }
+    {
+        Some(self.rows.get(junction as usize)?.entries())
+    }
 }

@@ -13,7 +13,7 @@ use least::{Day, least_time};
 use network::Network;
 
 impl Costs {
-    // Nothing where there is no such segment.
+    /// Nothing where there is no such segment.
     pub fn of(roads: &ClockRoads, day: &Day, segment: u32) -> Option<Costs>
         ensures { option_map costs_in result ≡ costs_of (road_lists roads.now) (day_firsts day.now) segment }
     {
@@ -25,20 +25,21 @@ impl Costs {
         Some(Costs { list })
     }
 
-    // How many arcs there are.
+    /// How many arcs there are.
     pub fn len(&self) -> u32
         ensures { result ≡ length (costs_in self.now) }
     {
         self.list.len() as u32
     }
 
+    /// Whether there is no arc.
     pub fn is_empty(&self) -> bool
         ensures { result ≡ (length (costs_in self.now) == 0) }
     {
         self.list.is_empty()
     }
 
-    // An arc's least time.
+    /// An arc's least time, in seconds; nothing where there is no such arc.
     pub fn time(&self, arc: u32) -> Option<u32>
         ensures { result ≡ slice_get (costs_in self.now) arc }
     {

@@ -21,3 +21,7 @@ pub mod Answering
 pub mod Sweeping
 pub mod Reoffering
 pub mod Bounding
+pub mod Fronts
+pub mod Only
+pub mod InOrder
+pub mod Changes

@@ -109,10 +109,10 @@ module _ (C : ℕ) where
   offers_in_any_order l k there back = one_serving (offer_all C 0 l []) (offer_all C 0 k []) C (λ s t. Contains k (entry s t)) (serving_same C (λ s t. Contains l (entry s t)) (λ s t. Contains k (entry s t)) (offer_all C 0 l []) (λ s t p. there (entry s t) p) (λ s t p. back (entry s t) p) (offers_serving l)) (offers_serving k)
 
 module _ (m : Roads) (f : ℕ → ℕ) (C : ℕ) (rows : ℕ → List Entry) (v : ℕ) where
-  abbrev Standing : (n s t : ℕ) → Type 0
+  abbrev pub Standing : (n s t : ℕ) → Type 0
   Standing n s t = (s < n) × (m.place s ≡ v) × (t ≡ 0)
 
-  sites_serving : (n : ℕ) → Serving C (Standing n) (offer_sites m C v n)
+  pub sites_serving : (n : ℕ) → Serving C (Standing n) (offer_sites m C v n)
   unfolding offer_sites
   sites_serving zero = serving_same C (λ s t. ⊥) (Standing 0) [] (λ s t p. absurd p) (λ s t p. let z = p.0 in omega arith) (serving_none C)
   sites_serving (suc n) = go (sites_serving n) (eqb (m.place n) v) refl

@@ -10,14 +10,14 @@ use Rattle.rows.specs.declared.entry.Entry.{Entry}
 use Rattle.rows.proofs.Listing.{in_none, in_head, in_tail, in_cases, all_from, pairs_tail, pairs_head, pairs_none, pairs_cons, before_trans, before_cases, before_no_later}
 use Rattle.rows.proofs.Crowds.{Apart}
 
-before_says : (x y : Entry) → comes_before x y ≡ true → Before x y
+pub before_says : (x y : Entry) → comes_before x y ≡ true → Before x y
 before_says x y e =
     ⊎_elim
     (λ p. inl (ltb-true x.time y.time p))
     (λ p. let q = and_parts (eqb x.time y.time) (ltb x.site y.site) p in inr (eqb-true x.time y.time q.0, ltb-true x.site y.site q.1))
     (or_cases (ltb x.time y.time) (eqb x.time y.time && ltb x.site y.site) e)
 
-not_before : (x y : Entry) → comes_before x y ≡ false → Before x y → ⊥
+pub not_before : (x y : Entry) → comes_before x y ≡ false → Before x y → ⊥
 not_before x y e p =
     let q = or_parts (ltb x.time y.time) (eqb x.time y.time && ltb x.site y.site) e in
     let n = ltb-false x.time y.time q.0 in
@@ -28,7 +28,7 @@ not_before x y e p =
 
 -- ---- a list without a site
 module _ (s : ℕ) where
-  without_either : (P : List Entry → Type 0) (y : Entry) (l : List Entry) → (y.site ≡ s → P l) → ((y.site ≡ s → ⊥) → P (y ∷ without site_of s l)) → P (without site_of s (y ∷ l))
+  pub without_either : (P : List Entry → Type 0) (y : Entry) (l : List Entry) → (y.site ≡ s → P l) → ((y.site ≡ s → ⊥) → P (y ∷ without site_of s l)) → P (without site_of s (y ∷ l))
   without_either P y l here on = go (eqb y.site s) refl
     where
       go : (b : Bool) → eqb y.site s ≡ b → P (cond b l (y ∷ without site_of s l))
@@ -62,7 +62,7 @@ module _ (s : ℕ) where
 
 -- ---- an entry put in its place
 module _ (x : Entry) where
-  put_either : (P : List Entry → Type 0) (y : Entry) (l : List Entry) → (Before x y → P (x ∷ without site_of x.site (y ∷ l))) → ((Before x y → ⊥) → y.site ≡ x.site → P (y ∷ l)) → ((Before x y → ⊥) → (y.site ≡ x.site → ⊥) → P (y ∷ put x l)) → P (put x (y ∷ l))
+  pub put_either : (P : List Entry → Type 0) (y : Entry) (l : List Entry) → (Before x y → P (x ∷ without site_of x.site (y ∷ l))) → ((Before x y → ⊥) → y.site ≡ x.site → P (y ∷ l)) → ((Before x y → ⊥) → (y.site ≡ x.site → ⊥) → P (y ∷ put x l)) → P (put x (y ∷ l))
   put_either P y l first same on = go (comes_before x y) refl
     where
       rest : (Before x y → ⊥) → (b : Bool) → eqb y.site x.site ≡ b → P (elim b as (λ _. List Entry) [ true ↦ y ∷ l | false ↦ y ∷ put x l ])

@@ -32,6 +32,10 @@ pub record IsIndex (segments n C : ℕ) (rows : ℕ → ℕ → List Entry) (sit
 abbrev pub LeastIndex : Roads → (segments C : ℕ) → (f : ℕ → ℕ → ℕ) → (sites times : List ℕ) → Type 0
 LeastIndex m segments C f sites times = (rows : ℕ → ℕ → List Entry) × ((i : ℕ) → i < segments → Defined m (f i) C (rows i)) × IsIndex segments m.junctions C rows sites times
 
+-- whether no other lists are such an index
+abbrev pub IsOnlyIndex : Roads → (segments C : ℕ) → (f : ℕ → ℕ → ℕ) → (sites times : List ℕ) → Type 0
+IsOnlyIndex m segments C f sites times = (others since : List ℕ) → LeastIndex m segments C f others since → (others ≡ sites) × (since ≡ times)
+
 -- at most so many entries of the lists from a place on, up to the first missing one
 unfoldable pub read_row : (sites times : List ℕ) → (C p : ℕ) → List Entry
 read_row sites times zero p = []

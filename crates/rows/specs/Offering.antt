@@ -1,13 +1,20 @@
 -- A row put together from offers, one after the other. Assumes nothing.
-use Rattle.std.specs.Prelude.{ℕ, zero, suc, ◌+◌, ◌^◌, Bool, true, false, ◌&&◌, ◌||◌, List, [], ◌∷◌, take, fold, ◌==◌, nat_lt}
+use Rattle.std.specs.Prelude.{◌≡◌, ◌≢◌, ℕ, zero, suc, ◌+◌, ◌^◌, ◌<◌, ◌≤◌, Bool, true, false, ◌&&◌, ◌||◌, if◌then◌else◌, List, [], ◌∷◌, ◌++◌, All, length, take, drop, fold, Some, None, Option, option_map, ◌==◌, nat_lt, slice_get}
+use Rattle.std.specs.List.{list_all}
 use Rattle.network.specs.Model.{Roads}
 use Rattle.network.specs.Without.{without}
-use Rattle.rows.specs.Nearest.{entry}
+use Rattle.rows.specs.Index.{entry_at, same}
+use Rattle.rows.specs.Nearest.{entry, Before}
 use Rattle.rows.specs.declared.entry.Entry.{Entry}
 
 -- whether an entry comes before another, by time, then number
 abbrev pub comes_before : Entry → Entry → Bool
 comes_before x y = nat_lt x.time y.time || (x.time == y.time && nat_lt x.site y.site)
+
+-- whether each entry of a list comes before all that follow
+abbrev pub is_in_order : List Entry → Bool
+is_in_order [] = true
+is_in_order (x ∷ l) = list_all (comes_before x) l && is_in_order l
 
 -- the site that an entry is of
 abbrev pub site_of : Entry → ℕ
@@ -21,6 +28,37 @@ put x (y ∷ l) = elim (comes_before x y) [ true ↦ x ∷ without site_of x.sit
 -- a row of at most C entries after one more offer
 unfoldable pub offer : (C : ℕ) → List Entry → Entry → List Entry
 offer C row x = take C (put x row)
+
+-- whether a row of at most C entries is full of entries that come before x
+abbrev pub is_full_before : (C : ℕ) → List Entry → Entry → Bool
+is_full_before C row x = length row == C && list_all (λ y. comes_before y x) row
+
+-- whether an offer leaves a row as it was
+abbrev pub Keeps : (C : ℕ) → List Entry → Entry → Type 0
+Keeps C row x = offer C row x ≡ row
+
+-- Whether the entry at a place, or the room behind all, gives way to x: the offer of x keeps what
+-- stands above the place, and puts x among what stands below it, which has no entry of its site.
+pub record GivesWay (C : ℕ) (row : List Entry) (x : Entry) (at : ℕ) : Type 0 where
+  pub within : at ≤ length row
+  pub room : at < C
+  pub apart : All (λ y. y.site ≢ x.site) (take at row)
+  pub after : at < length row → Before x (entry_at row at)
+  pub made : offer C row x ≡ put x (take at row) ++ drop (at + 1) row
+
+-- Whether x was put at p, no further than at a place, with nothing changed before p.
+pub record IsPutAt (x : Entry) (at p : ℕ) (old now : List Entry) : Type 0 where
+  pub within : p ≤ at
+  pub here : slice_get now p ≡ Some x
+  pub same : (i : ℕ) → i < p → slice_get now i ≡ slice_get old i
+  pub after : p < at → Before x (entry_at old p)
+
+-- the first place at which two rows differ, if any
+abbrev pub first_change : List Entry → List Entry → Option ℕ
+first_change [] [] = None
+first_change [] (y ∷ k) = Some 0
+first_change (x ∷ l) [] = Some 0
+first_change (x ∷ l) (y ∷ k) = if same x y then option_map suc (first_change l k) else Some 0
 
 -- an entry later by d
 abbrev pub later : ℕ → Entry → Entry

@@ -17,3 +17,7 @@ Takes m f v s t = (s < m.sites) × (arcs : List ℕ) × Chain m v arcs (m.place 
 -- the row of each junction holds the C sites of least time from there
 abbrev pub Defined : Roads → (ℕ → ℕ) → (C : ℕ) → (ℕ → List Entry) → Type 0
 Defined m f C rows = (v : ℕ) → v < m.junctions → Nearest C (Takes m f v) (rows v)
+
+-- whether no other rows are such
+abbrev pub IsOnlyDefined : Roads → (ℕ → ℕ) → (C : ℕ) → (ℕ → List Entry) → Type 0
+IsOnlyDefined m f C rows = (others : ℕ → List Entry) → Defined m f C others → (v : ℕ) → v < m.junctions → others v ≡ rows v

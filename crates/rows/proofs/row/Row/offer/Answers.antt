@@ -1,30 +1,62 @@
--- Each way to answer an offer leaves the row that the definition has. Assumes nothing.
-use Rattle.std.proofs.Common.{length, get_or, sym, ap, ◌∙◌}
-use Rattle.rows.specs.Nearest.{entry}
-use Rattle.rows.specs.Offering.{comes_before}
-use Rattle.rows.proofs.Inserting.{full_says, room_says, offer_before, offer_left, offer_end, offer_full}
+-- The row keeps as it is, or the offered entry is put below the place that is given to it.
+use Rattle.std.proofs.Common.{◌≡◌, ◌+◌, length, take, drop, sym, ap, ◌∙◌}
+use Rattle.std.specs.List.{refill}
+use Rattle.std.proofs.lemmas.List.{take_at}
+use Rattle.rows.specs.Offering.{first_change}
+use Rattle.rows.proofs.Changes.{put_changes, unchanged}
+use Rattle.rows.proofs.InOrder.{offer_late, offer_in_order, front_in_order}
+use Rattle.rows.proofs.Inserting.{made_room, had_room, lands, offer_room}
 use Rattle.rows.proofs.row.Row.offer.Goals as goal
+use Rattle.rows.proofs.row.Row.offer.Goals.{then-at-len, else-at-len}
 
-pub returns-in-Some-clause-entries : goal.returns-in-Some-clause-entries
-returns-in-Some-clause-entries c =
-    c.insert.ensures.items ∙ c.make_way.ensures.way c.args.offered
-    ∙ offer_before c.args.offered c.args.self.now.entries.items c.args.self.now.most c.in-Some.at (entry 0 0) (sym c.place_for.ensures ∙ c.in-Some.is)
-    (ap (λ l. comes_before c.args.offered (get_or l c.in-Some.at (entry 0 0))) (sym c.deref.ensures.0) ∙ sym c.comes_before.ensures ∙ c.if-comes_before.true)
+pub returns-then-is_full_before-clause-entries : goal.returns-then-is_full_before-clause-entries
+returns-then-is_full_before-clause-entries c =
+    let s = c.args.self.now in
+    sym (offer_late s.most s.entries.items c.args.offered (sym c.is_full_before.ensures ∙ c.if-is_full_before.true))
 
-pub returns-else-comes_before-clause-entries : goal.returns-else-comes_before-clause-entries
-returns-else-comes_before-clause-entries c =
-    offer_left c.args.offered c.args.self.now.entries.items c.args.self.now.most c.in-Some.at (entry 0 0) c.args.self.now.room (sym c.place_for.ensures ∙ c.in-Some.is)
-    (ap (λ l. comes_before c.args.offered (get_or l c.in-Some.at (entry 0 0))) (sym c.deref.ensures.0) ∙ sym c.comes_before.ensures ∙ c.if-comes_before.false)
+pub put_before-requires-clause-order : goal.put_before-requires-clause-order
+put_before-requires-clause-order c =
+    let s = c.args.self.now in
+    let l = s.entries.items in
+    let i = c.in_ok-at.at in
+    front_in_order l (take i c.deref_mut.result.now) i (ap (take i) c.deref_mut.ensures.value ∙ elim c.if-at-len.branch [
+      | then-at-len w ↦ (made_room c.args.offered l c.if-at-len.self.1.1.0.items i (w.if-at-len.true ∙ c.len.ensures.value) (ap (λ r. r.1.1.0.items) w.self-is ∙ w.push.ensures.items)).0
+      | else-at-len w ↦ (had_room l c.if-at-len.self.1.1.0.items i (ap (λ r. r.1.1.0.items) w.self-is)).0
+    ]) s.in_order
 
-pub returns-in-None-clause-entries : goal.returns-in-None-clause-entries
-returns-in-None-clause-entries c =
-    c.push.ensures.items
-    ∙ offer_end c.args.offered c.args.self.now.entries.items c.args.self.now.most
-    (room_says (length c.args.self.now.entries.items) c.args.self.now.most c.is_full.result c.args.self.now.room c.is_full.ensures c.if-not-is_full.true)
-    (sym c.place_for.ensures ∙ c.in-None.is)
+pub invariant_of-self : goal.invariant_of-self
+invariant_of-self c =
+    let s = c.args.self.now in
+    let l = s.entries.items in
+    let i = c.in_ok-at.at in
+    let room = c.if-at-len.self.1.1.0.items in
+    let same : (take i room ≡ take i l) × (drop (i + 1) room ≡ drop (i + 1) l) = elim c.if-at-len.branch [
+      | then-at-len w ↦ made_room c.args.offered l room i (w.if-at-len.true ∙ c.len.ensures.value) (ap (λ r. r.1.1.0.items) w.self-is ∙ w.push.ensures.items)
+      | else-at-len w ↦ had_room l room i (ap (λ r. r.1.1.0.items) w.self-is)
+    ] in
+    let new = c.put_before.new.entries in
+    let made = lands c.args.offered s.most l room c.deref_mut.result.now new i c.in_ok-at.ensures.given c.deref_mut.ensures.value same c.put_before.ensures.entries c.put_before.auto.entries in
+    record { few = s.few; room = offer_room s.most l (refill (length room) room new) c.args.offered made; in_order = offer_in_order s.most l (refill (length room) room new) c.args.offered made s.in_order }
 
-pub returns-else-not-is_full-clause-entries : goal.returns-else-not-is_full-clause-entries
-returns-else-not-is_full-clause-entries c =
-    offer_full c.args.offered c.args.self.now.entries.items c.args.self.now.most
-    (full_says (length c.args.self.now.entries.items) c.args.self.now.most c.is_full.result c.is_full.ensures c.if-not-is_full.false)
-    (sym c.place_for.ensures ∙ c.in-None.is)
+pub returns-then-is_full_before-clause-place : goal.returns-then-is_full_before-clause-place
+returns-then-is_full_before-clause-place c = sym (unchanged c.args.self.now.entries.items)
+
+pub returns-in_err-at-clause-place : goal.returns-in_err-at-clause-place
+returns-in_err-at-clause-place c = c.from_residual.ensures ∙ sym (unchanged c.args.self.now.entries.items)
+
+pub returns-clause-place : goal.returns-clause-place
+returns-clause-place c =
+    let s = c.args.self.now in
+    let l = s.entries.items in
+    let i = c.in_ok-at.at in
+    let room = c.if-at-len.self.1.1.0.items in
+    let given = c.in_ok-at.ensures.given in
+    let same : (take i room ≡ take i l) × (drop (i + 1) room ≡ drop (i + 1) l) = elim c.if-at-len.branch [
+      | then-at-len w ↦ made_room c.args.offered l room i (w.if-at-len.true ∙ c.len.ensures.value) (ap (λ r. r.1.1.0.items) w.self-is ∙ w.push.ensures.items)
+      | else-at-len w ↦ had_room l room i (ap (λ r. r.1.1.0.items) w.self-is)
+    ] in
+    let now = c.deref_mut.result.now in
+    let new = c.put_before.new.entries in
+    let long = c.put_before.auto.entries ∙ ap length c.deref_mut.ensures.value in
+    sym (ap (first_change l) (take_at new (drop (length new) room) (length room) long)
+    ∙ put_changes c.args.offered l now new i c.put_before.result given.within given.after (ap (take i) c.deref_mut.ensures.value ∙ same.0) c.put_before.ensures.place)
